@@ -1,0 +1,62 @@
+-- The answer sets of ground rules. A set of atoms is a test of their numbers.
+-- Source: Gelfond and Lifschitz, "The stable model semantics for logic programming" (1988); a constraint
+-- as in Niemela, "Logic programs with stable model semantics as a constraint programming paradigm" (1999).
+use Rattle.std.specs.Prelude.{ℕ, ◌≡◌, ◌<◌, ◌==◌, Bool, true, false, not, ◌&&◌, IsTrue, List, Option, All, Some, None, IfSome, IsSomeAnd, ⊤}
+use Rattle.std.specs.List.{list_all, list_any}
+use Rattle.std.specs.List.Sorted.{IsStrictlyIncreasing}
+use Rattle.ms_base.specs.declared.ground_rule.GroundRule.{GroundRule}
+use Rattle.ms_base.specs.declared.ground_rule.GroundKind.{GroundKind}
+use Rattle.ms_base.specs.declared.ground_rule.GroundKind.TheVariants.{Normal, Constraint}
+
+-- each of the atoms is in the set, and none of them is
+abbrev pub has_all : (ℕ → Bool) → List ℕ → Bool
+has_all set atoms = list_all set atoms
+
+abbrev pub has_none : (ℕ → Bool) → List ℕ → Bool
+has_none set atoms = list_all (λ a. not (set a)) atoms
+
+-- The set `of` keeps what the rule asks in the reduct by the set `by`: a normal rule none of whose negated
+-- atoms is in `by` asks for its head where each of its positive atoms is there.
+abbrev pub Keeps : (ℕ → Bool) → (ℕ → Bool) → GroundKind → GroundRule → Type 0
+Keeps by of Normal rule = IsTrue (has_none by rule.neg) → IsTrue (has_all of rule.pos) → IfSome rule.head (λ h. IsTrue (of h))
+Keeps by of Constraint rule = ⊤
+
+-- The set `of` is a model of the reduct by the set `by`.
+abbrev pub IsReductModel : List GroundRule → (ℕ → Bool) → (ℕ → Bool) → Type 0
+IsReductModel rules by of = All (λ rule. Keeps by of rule.kind rule) rules
+
+-- A constraint allows a set in which its body doesn't hold.
+abbrev pub Allows : (ℕ → Bool) → GroundKind → GroundRule → Type 0
+Allows set Normal rule = ⊤
+Allows set Constraint rule = (has_all set rule.pos && has_none set rule.neg) ≡ false
+
+-- an atom, and whether it is assumed true
+abbrev pub Assumption : Type 0
+Assumption = ℕ × Bool
+
+-- The set is the least model of the reduct by itself, each constraint allows it, and it meets each assumption.
+pub record IsAnswerSet (rules : List GroundRule) (assumptions : List Assumption) (set : ℕ → Bool) : Type 0 where
+  pub model : IsReductModel rules set set
+  pub least : (other : ℕ → Bool) → IsReductModel rules set other → (a : ℕ) → IsTrue (set a) → IsTrue (other a)
+  pub allowed : All (λ rule. Allows set rule.kind rule) rules
+  pub assumed : All (λ s. set s.0 ≡ s.1) assumptions
+
+-- the set of the atoms in a list
+abbrev pub set_of : List ℕ → ℕ → Bool
+set_of atoms a = list_any (λ b. b == a) atoms
+
+-- A set of atoms below n, as the list of its atoms in rising order.
+pub record IsAtomSet (n : ℕ) (atoms : List ℕ) : Type 0 where
+  pub rising : IsStrictlyIncreasing atoms
+  pub within : All (λ a. a < n) atoms
+
+-- a normal rule has a head, and a constraint has none
+abbrev pub HasHead : ℕ → GroundKind → Option ℕ → Type 0
+HasHead n Normal head = IsSomeAnd head (λ h. h < n)
+HasHead n Constraint head = head ≡ None
+
+-- A rule over the atoms below n.
+pub record IsRuleOver (n : ℕ) (rule : GroundRule) : Type 0 where
+  pub head : HasHead n rule.kind rule.head
+  pub pos : All (λ a. a < n) rule.pos
+  pub neg : All (λ a. a < n) rule.neg

@@ -1,0 +1,35 @@
+use crate::seq::Seq;
+
+/// What a token is.
+#[derive(Clone, Copy, Debug, PartialEq, Eq)]
+pub enum TokenKind {
+    /// A name other than `not`.
+    Name,
+    /// The word `not`.
+    Not,
+    /// `:-`
+    If,
+    /// `,`
+    Comma,
+    /// `.`
+    Dot,
+}
+
+/// A token: its bytes stand from `start` to before `end`, the first of them in the line `line`,
+/// counted from 1.
+#[derive(Clone, Copy, Debug, PartialEq, Eq)]
+pub struct Token {
+    pub kind: TokenKind,
+    pub start: usize,
+    pub end: usize,
+    pub line: u64,
+}
+
+pub type Tokens = Seq<Token>;
+
+/// The first byte that begins no token: its place, and its line, counted from 1.
+#[derive(Clone, Copy, Debug, PartialEq, Eq)]
+pub struct BadByte {
+    pub at: usize,
+    pub line: u64,
+}
