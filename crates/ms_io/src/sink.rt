@@ -1,0 +1,23 @@
+ghost use Rattle.std.specs.Prelude.{◌≡◌, ℕ, ◌≤◌, List, Option, OnOk, OnErr};
+ghost use Rattle.ms_io.specs.Faults.{Rose};
+ghost use Rattle.ms_io.specs.Streams.{Adds, AddsFront};
+
+/// A read or a write failed. The object that failed counted the fault.
+#[derive(Clone, Copy, Debug, PartialEq, Eq)]
+pub struct Failed;
+
+/// Where bytes go. It may tell the bytes that it holds, and it counts its faults.
+pub trait Sink {
+    /// The bytes that it holds, where it tells them.
+    ghost held: { Self → Option (List ℕ) };
+
+    /// How many faults there were.
+    ghost faults: { Self → ℕ };
+
+    /// Adds the piece, or fails after adding a front of it.
+    fn put(&mut self, piece: &[u8]) -> Result<(), Failed>
+        ensures counts { faults self.old ≤ faults self.new }
+        ensures failed { OnErr result (Rose (faults self.old) (faults self.new)) }
+        ensures added { OnOk result (Adds (held self.old) piece.now (held self.new)) }
+        ensures front { OnErr result (AddsFront (held self.old) piece.now (held self.new)) };
+}

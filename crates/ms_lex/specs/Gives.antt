@@ -1,0 +1,12 @@
+-- What `lex` answers, against the tokens of the text.
+use Rattle.std.specs.Prelude.{ℕ, ◌≡◌, List, Result, Ok, Err, ⊤}
+use Rattle.ms_base.specs.declared.token.Token.{Token}
+use Rattle.ms_base.specs.declared.token.BadByte.{BadByte}
+use Rattle.ms_lex.specs.declared.LexFault.{LexFault}
+use Rattle.ms_lex.specs.declared.LexFault.TheVariants.{BadByte as bad_byte, OutOfMemory}
+
+abbrev pub Gives : Result (List Token) LexFault → Result (List Token) BadByte → Type 0
+Gives (Ok tokens) of = of ≡ Ok tokens
+Gives (Err (bad_byte at line)) of = of ≡ Err (record { at = at; line = line })
+-- want of memory may come at any time
+Gives (Err OutOfMemory) of = ⊤
