@@ -3,3 +3,6 @@
 
 pub mod sink;
 pub mod source;
+
+pub use sink::{Failed, Sink};
+pub use source::Source;
