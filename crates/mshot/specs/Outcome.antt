@@ -63,3 +63,18 @@ IsComplete ReadFault = ⊥
 IsComplete WriteFault = ⊥
 IsComplete LogFault = ⊥
 IsComplete TooLong = ⊥
+
+-- The first bytes of a text, or none, were added to what was held.
+abbrev pub WritesFrontOf : List ℕ → List ℕ → Option (List ℕ) → Type 0
+WritesFrontOf text held now = (count : ℕ) × (now ≡ Some (held ++ take count text))
+
+-- how a call ends that has read the whole script
+abbrev pub IsAfterReading : Status → Type 0
+IsAfterReading Done = Unit {0}
+IsAfterReading SomeRefused = Unit {0}
+IsAfterReading WriteFault = Unit {0}
+IsAfterReading NoMemory = Unit {0}
+IsAfterReading Usage = ⊥
+IsAfterReading ReadFault = ⊥
+IsAfterReading LogFault = ⊥
+IsAfterReading TooLong = ⊥

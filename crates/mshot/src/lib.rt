@@ -2,5 +2,6 @@
 #![tactic(auto)]
 
 pub mod input;
+pub mod serve;
 pub mod status;
 pub mod words;
