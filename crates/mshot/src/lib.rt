@@ -4,4 +4,8 @@
 pub mod input;
 pub mod serve;
 pub mod status;
+pub mod top;
 pub mod words;
+
+pub use status::Status;
+pub use top::mshot;
