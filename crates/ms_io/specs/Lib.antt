@@ -2,3 +2,5 @@ pub mod Faults
 pub mod Streams
 pub mod MemSource
 pub mod MemSink
+pub mod StdSource
+pub mod StdSink

@@ -1,4 +1,5 @@
-ghost use Rattle.std.specs.Prelude.{◌≡◌, ◌<◌, ◌≤◌, length, None, IfOk, OnOk, OnErr};
+ghost use Rattle.std.specs.Prelude.{◌≡◌, ℕ, ◌<◌, ◌≤◌, length, take, None, IfOk, OnOk, OnErr};
+ghost use Rattle.std.specs.Io.KnownBytes.{Appends, Keeps};
 ghost use Rattle.ms_io.specs.Faults.{Rose, raised};
 
 use crate::failed::Failed;
@@ -7,8 +8,7 @@ use crate::tries::{TRIES, is_interrupted};
 use std::io::Write;
 use std::marker::Model;
 
-/// A sink over a writer, as standard output or standard error. Each piece is flushed. Contracts see
-/// it as the count of its faults.
+/// A sink over a writer, as standard output or standard error. Each piece is flushed.
 #[derive(Debug, Drop)]
 pub struct StdSink<W> {
     writer: W,
@@ -16,31 +16,31 @@ pub struct StdSink<W> {
 }
 
 impl<W> Model for StdSink<W> {
-    ghost use Rattle.std.specs.Prelude.{ℕ};
+    ghost use Rattle.ms_io.specs.StdSink.{Writes};
 
-    ghost Value = { ℕ };
+    ghost Value = { Writes W };
 
-    ghost view = { λ s. s.faults };
+    ghost view = { λ s. record { writer = s.writer; faults = s.faults } };
 }
 
 impl<W: Write> StdSink<W> {
     pub fn new(writer: W) -> Self
-        ensures { result ≡ 0 }
+        ensures { result ≡ record { writer = writer; faults = 0 } }
     {
         StdSink { writer, faults: 0 }
     }
 
     /// How many calls failed. The count stops at its greatest value.
     pub fn faults(&self) -> u64
-        ensures { result ≡ self.now }
+        ensures { result ≡ self.now.faults }
     {
         self.faults
     }
 
     // Counts a fault.
     fn fault(&mut self) -> Failed
-        ensures raised { self.new ≡ raised self.old }
-        ensures counts { self.old ≤ self.new }
+        ensures raised { self.new ≡ record self.old { faults = raised self.old.faults } }
+        ensures counts { self.old.faults ≤ self.new.faults }
     {
         self.faults = self.faults.saturating_add(1);
         Failed
@@ -48,11 +48,14 @@ impl<W: Write> StdSink<W> {
 
     // Writes a front of a piece that isn't empty, and answers its length. To write nothing is a fault.
     fn write_front(&mut self, piece: &[u8]) -> Result<usize, Failed>
+        ensures bytes { IfOk result (λ n. Appends (W.contents self.old.writer)
+            (W.contents self.new.writer) (take n piece.now)) }
+        ensures kept { OnErr result (Keeps (W.contents self.old.writer) (W.contents self.new.writer)) }
         ensures some { IfOk result (λ n. 0 < n) }
         ensures within { IfOk result (λ n. n ≤ length piece.now) }
-        ensures ok { OnOk result (self.new ≡ self.old) }
-        ensures err { OnErr result (self.new ≡ raised self.old) }
-        ensures counts { self.old ≤ self.new }
+        ensures ok { OnOk result (self.new.faults ≡ self.old.faults) }
+        ensures err { OnErr result (self.new.faults ≡ raised self.old.faults) }
+        ensures counts { self.old.faults ≤ self.new.faults }
     {
         for _ in 0..TRIES {
             match self.writer.write(piece) {
@@ -69,17 +72,23 @@ impl<W: Write> StdSink<W> {
 impl<W: Write> Sink for StdSink<W> {
     ghost held = { λ _. None };
 
-    ghost faults = { λ faults. faults };
+    ghost faults = { λ s. s.faults };
 
     /// Where it is `Ok`, the whole piece was written and flushed.
     fn put(&mut self, piece: &[u8]) -> Result<(), Failed>
         // A call that fails counts one fault, and no other does.
-        ensures ok { OnOk result (self.new ≡ self.old) }
-        ensures err { OnErr result (self.new ≡ raised self.old) }
+        ensures ok { OnOk result (self.new.faults ≡ self.old.faults) }
+        ensures err { OnErr result (self.new.faults ≡ raised self.old.faults) }
+
+        // Where the writer tells what it holds, it got the piece, or a front of it.
+        ensures bytes { OnOk result (Appends (W.contents self.old.writer)
+            (W.contents self.new.writer) piece.now) }
+        ensures front { OnErr result ((n : ℕ) × Appends (W.contents self.old.writer)
+            (W.contents self.new.writer) (take n piece.now)) }
 
         // What each sink promises.
-        ensures counts { self.old ≤ self.new }
-        ensures failed { OnErr result (Rose self.old self.new) }
+        ensures counts { self.old.faults ≤ self.new.faults }
+        ensures failed { OnErr result (Rose self.old.faults self.new.faults) }
     {
         let mut rest = piece;
         while !rest.is_empty() {

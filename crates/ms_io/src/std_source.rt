@@ -1,4 +1,5 @@
-ghost use Rattle.std.specs.Prelude.{◌≡◌, ◌≤◌, length, None, IfOk, OnOk, OnErr};
+ghost use Rattle.std.specs.Prelude.{◌≡◌, ◌≤◌, length, take, None, IfOk, OnOk, OnErr};
+ghost use Rattle.std.specs.Io.KnownBytes.{Consumes, Keeps};
 ghost use Rattle.ms_io.specs.Faults.{Rose, raised};
 
 use crate::failed::Failed;
@@ -7,7 +8,7 @@ use crate::tries::{TRIES, is_interrupted};
 use std::io::Read;
 use std::marker::Model;
 
-/// A source over a reader, as standard input. Contracts see it as the count of its faults.
+/// A source over a reader, as standard input.
 #[derive(Debug, Drop)]
 pub struct StdSource<R> {
     reader: R,
@@ -15,23 +16,23 @@ pub struct StdSource<R> {
 }
 
 impl<R> Model for StdSource<R> {
-    ghost use Rattle.std.specs.Prelude.{ℕ};
+    ghost use Rattle.ms_io.specs.StdSource.{Reads};
 
-    ghost Value = { ℕ };
+    ghost Value = { Reads R };
 
-    ghost view = { λ s. s.faults };
+    ghost view = { λ s. record { reader = s.reader; faults = s.faults } };
 }
 
 impl<R: Read> StdSource<R> {
     pub fn new(reader: R) -> Self
-        ensures { result ≡ 0 }
+        ensures { result ≡ record { reader = reader; faults = 0 } }
     {
         StdSource { reader, faults: 0 }
     }
 
     /// How many calls failed. The count stops at its greatest value.
     pub fn faults(&self) -> u64
-        ensures { result ≡ self.now }
+        ensures { result ≡ self.now.faults }
     {
         self.faults
     }
@@ -40,16 +41,21 @@ impl<R: Read> StdSource<R> {
 impl<R: Read> Source for StdSource<R> {
     ghost left = { λ _. None };
 
-    ghost faults = { λ faults. faults };
+    ghost faults = { λ s. s.faults };
 
     fn take(&mut self, buffer: &mut [u8]) -> Result<usize, Failed>
         // A call that fails counts one fault, and no other does.
-        ensures ok { OnOk result (self.new ≡ self.old) }
-        ensures err { OnErr result (self.new ≡ raised self.old) }
+        ensures ok { OnOk result (self.new.faults ≡ self.old.faults) }
+        ensures err { OnErr result (self.new.faults ≡ raised self.old.faults) }
+
+        // Where the reader tells what it has left, no byte of that is lost.
+        ensures bytes { IfOk result (λ n. Consumes (R.remaining self.old.reader)
+            (R.remaining self.new.reader) (take n buffer.new)) }
+        ensures kept { OnErr result (Keeps (R.remaining self.old.reader) (R.remaining self.new.reader)) }
 
         // What each source promises.
-        ensures counts { self.old ≤ self.new }
-        ensures failed { OnErr result (Rose self.old self.new) }
+        ensures counts { self.old.faults ≤ self.new.faults }
+        ensures failed { OnErr result (Rose self.old.faults self.new.faults) }
         ensures within { IfOk result (λ n. n ≤ length buffer.old) }
     {
         for _ in 0..TRIES {
