@@ -1,4 +1,4 @@
-ghost use Rattle.std.specs.Prelude.{◌≡◌, ◌+◌, ◌-◌, ◌<◌, ◌≤◌, ◌↔◌, ◌⊎◌, [], ◌++◌, length, Some, IsErr, IfOk, OnOk, OnErr, Contains};
+ghost use Rattle.std.specs.Prelude.{◌≡◌, ◌-◌, ◌<◌, ◌≤◌, ◌↔◌, ◌⊎◌, [], length, Some, IsErr, IsOk, IfOk, OnOk, OnErr, Contains};
 ghost use Rattle.ms_io.specs.Faults.{Rose};
 ghost use Rattle.ms_io.specs.MemSink.{after_put, after_refusal};
 ghost use Rattle.ms_io.specs.Streams.{Adds, AddsFront};
@@ -40,13 +40,14 @@ impl MemSink {
     /// An empty sink with room for `room` bytes, whose memory it takes here. The calls whose numbers,
     /// counted from 0, are in `fails` will fail.
     pub fn new(alloc: Global, room: usize, fails: Vec<u64>) -> Result<Self, OutOfMemory>
-        ensures { IfOk result (λ sink. sink ≡ record {
+        ensures ok { IfOk result (λ sink. sink ≡ record {
           held = [];
           room = room;
           fails = fails.items;
           calls = 0;
           faults = 0;
         }) }
+        ensures succeeds { room ≡ 0 → IsOk result }
     {
         Ok(MemSink {
             bytes: Vec::with_capacity(alloc, room)?,

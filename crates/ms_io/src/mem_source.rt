@@ -1,4 +1,4 @@
-ghost use Rattle.std.specs.Prelude.{◌≡◌, ◌+◌, ◌<◌, ◌≤◌, ◌↔◌, [], ◌++◌, length, take, drop, Some, IsErr, IfOk, OnErr, Contains};
+ghost use Rattle.std.specs.Prelude.{◌≡◌, ◌<◌, ◌≤◌, ◌↔◌, ◌++◌, length, take, drop, Some, IsErr, IfOk, OnErr, Contains};
 ghost use Rattle.ms_io.specs.Faults.{Rose};
 ghost use Rattle.ms_io.specs.MemSource.{moved_count, after_move, after_fault};
 ghost use Rattle.ms_io.specs.Streams.{Moves, IsAtEnd};

@@ -1,4 +1,4 @@
-ghost use Rattle.std.specs.Prelude.{◌≡◌, None, IsOk};
+ghost use Rattle.std.specs.Prelude.{None, IsOk};
 
 use crate::failed::Failed;
 use crate::sink::Sink;

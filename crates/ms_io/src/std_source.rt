@@ -1,5 +1,5 @@
-ghost use Rattle.std.specs.Prelude.{◌≡◌, ◌≤◌, length, take, None, IfOk, OnOk, OnErr};
-ghost use Rattle.std.specs.Io.KnownBytes.{Consumes, Keeps};
+ghost use Rattle.std.specs.Prelude.{◌≡◌, ◌<◌, ◌≤◌, length, take, None, IfOk, OnOk, OnErr};
+ghost use Rattle.std.specs.Io.KnownBytes.{Consumes, IsAtEnd, Keeps};
 ghost use Rattle.ms_io.specs.Faults.{Rose, raised};
 
 use crate::failed::Failed;
@@ -51,6 +51,8 @@ impl<R: Read> Source for StdSource<R> {
         // Where the reader tells what it has left, no byte of that is lost.
         ensures bytes { IfOk result (λ n. Consumes (R.remaining self.old.reader)
             (R.remaining self.new.reader) (take n buffer.new)) }
+        ensures end { IfOk result (λ n. n ≡ 0 → 0 < length buffer.old
+            → IsAtEnd (R.remaining self.new.reader)) }
         ensures kept { OnErr result (Keeps (R.remaining self.old.reader) (R.remaining self.new.reader)) }
 
         // What each source promises.
