@@ -1,0 +1,3 @@
+pub mod ShownLists
+pub mod Sound
+pub mod ReadText

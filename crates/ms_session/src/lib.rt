@@ -1,13 +1,11 @@
-// A library with one function.
+// One step of the machine for each command.
 #![tactic(auto)]
 
-ghost use Rattle.std.specs.Prelude.{◌≡◌};
-ghost use Rattle.ms_session.specs.Echo.{echo_of};
+pub mod reply_text;
+pub mod session;
+pub mod shown;
+pub mod text;
 
-// The `ensures` clause is the contract: what `echo` returns is `echo_of` of its argument, a definition
-// in `specs/Echo.antt`, which a caller's clause can cite too.
-pub fn echo(x: usize) -> usize
-    ensures { result ≡ echo_of x }
-{
-    x
-}
+pub use reply_text::print;
+pub use session::Session;
+pub use shown::listing;

@@ -1,13 +1,11 @@
-// A library with one function.
+// The top call: replies to a script.
 #![tactic(auto)]
 
-ghost use Rattle.std.specs.Prelude.{◌≡◌};
-ghost use Rattle.mshot.specs.Echo.{echo_of};
+pub mod input;
+pub mod serve;
+pub mod status;
+pub mod top;
+pub mod words;
 
-// The `ensures` clause is the contract: what `echo` returns is `echo_of` of its argument, a definition
-// in `specs/Echo.antt`, which a caller's clause can cite too.
-pub fn echo(x: usize) -> usize
-    ensures { result ≡ echo_of x }
-{
-    x
-}
+pub use status::Status;
+pub use top::mshot;
