@@ -1,2 +1,6 @@
 pub mod Faults
 pub mod Streams
+pub mod MemSource
+pub mod MemSink
+pub mod StdSource
+pub mod StdSink

@@ -2,9 +2,7 @@ ghost use Rattle.std.specs.Prelude.{◌≡◌, ℕ, ◌≤◌, List, Option, OnO
 ghost use Rattle.ms_io.specs.Faults.{Rose};
 ghost use Rattle.ms_io.specs.Streams.{Adds, AddsFront};
 
-/// A read or a write failed. The object that failed counted the fault.
-#[derive(Clone, Copy, Debug, PartialEq, Eq)]
-pub struct Failed;
+use crate::failed::Failed;
 
 /// Where bytes go. It may tell the bytes that it holds, and it counts its faults.
 pub trait Sink {

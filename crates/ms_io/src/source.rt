@@ -2,7 +2,7 @@ ghost use Rattle.std.specs.Prelude.{◌≡◌, ℕ, ◌<◌, ◌≤◌, List, Op
 ghost use Rattle.ms_io.specs.Faults.{Rose};
 ghost use Rattle.ms_io.specs.Streams.{Moves, IsAtEnd};
 
-use crate::sink::Failed;
+use crate::failed::Failed;
 
 /// Where bytes come from. It may tell the bytes that are left, and it counts its faults.
 pub trait Source {
