@@ -1,6 +1,5 @@
 -- The first piece ends after the first dot, or with the tokens.
-use Rattle.std.proofs.Common.{◌≡◌, ℕ, suc, ◌+◌, ◌<◌, Bool, true, false, List, [], ◌∷◌, ◌++◌, length, take, drop, cond, ltb, refl, ap, arith, Option, Some, None, not, sym, ◌∙◌, ◌==◌, take-append-drop, length-drop}
-use Rattle.std.specs.List.{prefix_len, position, position_or_len}
+use Rattle.std.proofs.Common.{◌≡◌, ℕ, suc, ◌+◌, ◌<◌, Bool, true, false, List, [], ◌∷◌, length, take, drop, cond, ltb, refl, ap, arith, Some, None, sym, ◌∙◌, ◌==◌, take-append-drop, length-drop}
 use Rattle.std.specs.Option.{option_map_or}
 use Rattle.std.proofs.lemmas.Bool.Decides.{nat_tests}
 use Rattle.ms_base.specs.declared.token.Token.{Token}

@@ -1,5 +1,5 @@
 -- A draft is a whole rule after just those words that spell one.
-use Rattle.std.proofs.Common.{◌≡◌, ℕ, Bool, true, false, List, [], ◌∷◌, ◌++◌, map, fold, Option, Some, None, refl, ap, sym, ◌∙◌, append-nil, append_assoc}
+use Rattle.std.proofs.Common.{◌≡◌, ℕ, Bool, true, false, List, [], ◌∷◌, ◌++◌, fold, Option, Some, None, refl, ap, sym, ◌∙◌, append-nil, append_assoc}
 use Rattle.std.specs.List.{filter_map}
 use Rattle.ms_base.specs.Grammar.{Word, named, word_not, word_if, word_comma, word_dot, Literal, literal_words, body_words, SpellsRule, name_where}
 use Rattle.ms_parse.specs.declared.draft.Draft.{Draft}

@@ -1,16 +1,16 @@
 -- A piece is a statement just where its draft is a whole rule.
-use Rattle.std.proofs.Common.{◌≡◌, ℕ, ◌≤◌, List, map, fold, take, length, Option, Some, None, refl, sym, ◌∙◌, subst}
+use Rattle.std.proofs.Common.{◌≡◌, ℕ, ◌≤◌, List, map, fold, take, length, Option, refl, ◌∙◌, subst}
 use Rattle.std.proofs.lemmas.List.{take_all}
 use Rattle.std.proofs.lemmas.List.Folds.{fold-map}
 use Rattle.std.specs.Option.{IfSome, IfNone}
 use Rattle.ms_base.specs.declared.token.Token.{Token}
 use Rattle.ms_base.specs.declared.small_rule.SmallRule.{SmallRule}
-use Rattle.ms_base.specs.Grammar.{IsStatement, SpellsRule, Literal, word_of, first_line}
+use Rattle.ms_base.specs.Grammar.{IsStatement, SpellsRule, word_of, first_line}
 use Rattle.ms_parse.specs.declared.draft.Draft.{Draft}
 use Rattle.ms_parse.specs.declared.draft.State.{State}
-use Rattle.ms_parse.specs.declared.draft.State.TheVariants.{Start, AfterHead, LiteralWanted, NameWanted, AfterLiteral, Done, Failed}
+use Rattle.ms_parse.specs.declared.draft.State.TheVariants.{Done}
 use Rattle.ms_parse.specs.Reading.{at_start, after_word, rule_from}
-use Rattle.ms_parse.proofs.ReadingLemmas.{after, whole, after-spelled, SomeRule, some_rule}
+use Rattle.ms_parse.proofs.ReadingLemmas.{after, after-spelled, SomeRule, some_rule}
 
 abbrev draft_of : List ℕ → List Token → Draft
 draft_of text piece = after at_start (map (word_of text) piece)

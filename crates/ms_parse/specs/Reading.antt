@@ -1,5 +1,5 @@
 -- How a rule is read, word by word.
-use Rattle.std.specs.Prelude.{ℕ, List, [], ◌∷◌, ◌++◌, Option, Some, None}
+use Rattle.std.specs.Prelude.{ℕ, [], ◌∷◌, ◌++◌, Option, Some, None}
 use Rattle.ms_base.specs.declared.small_rule.SmallRule.{SmallRule}
 use Rattle.ms_base.specs.Grammar.{Word, named, word_not, word_if, word_comma, word_dot}
 use Rattle.ms_parse.specs.declared.draft.Draft.{Draft}

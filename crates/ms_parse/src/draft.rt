@@ -81,7 +81,12 @@ impl Draft {
     pub fn into_rule(self, line: u64) -> Option<SmallRule>
         ensures { result ≡ rule_from self.state self line }
     {
-        let Draft { state, head, pos, neg } = self;
+        let Draft {
+            state,
+            head,
+            pos,
+            neg,
+        } = self;
         match state {
             State::Done => Some(SmallRule {
                 head,

@@ -10,10 +10,10 @@ ghost use Rattle.ms_parse.specs.Pieces.{is_dot, piece_len, IsFirstPiece};
 
 mod draft;
 
-pub use ms_base::small_rule::{Names, SmallRule, SmallRules};
 use crate::draft::Draft;
 use ms_base::memory::OutOfMemory;
 use ms_base::seq::Seq;
+pub use ms_base::small_rule::{Names, SmallRule, SmallRules};
 use ms_base::token::{Token, TokenKind};
 use ms_lex::Tokens;
 use std::alloc::{AllocFailed, Global};
@@ -27,7 +27,9 @@ pub enum ParseFault {
 }
 
 impl From<OutOfMemory> for ParseFault {
-    ghost from_gives = { λ _ fault. fault ≡ ParseFault.OutOfMemory };
+    ghost use Rattle.ms_parse.specs.declared.ParseFault.TheVariants.{OutOfMemory};
+
+    ghost from_gives = { λ _ fault. fault ≡ OutOfMemory };
 
     fn from(_: OutOfMemory) -> ParseFault {
         ParseFault::OutOfMemory
@@ -35,7 +37,9 @@ impl From<OutOfMemory> for ParseFault {
 }
 
 impl<T: Drop> From<AllocFailed<T>> for ParseFault {
-    ghost from_gives = { λ _ fault. fault ≡ ParseFault.OutOfMemory };
+    ghost use Rattle.ms_parse.specs.declared.ParseFault.TheVariants.{OutOfMemory};
+
+    ghost from_gives = { λ _ fault. fault ≡ OutOfMemory };
 
     fn from(_: AllocFailed<T>) -> ParseFault {
         ParseFault::OutOfMemory
@@ -84,7 +88,9 @@ fn piece_len(tokens: &[Token]) -> usize
 fn dot_place(tokens: &[Token]) -> Option<usize>
     ensures { result ≡ position (λ token. is_dot token.kind) tokens.now }
 {
-    tokens.iter().position(|token| matches!(token.kind, TokenKind::Dot))
+    tokens
+        .iter()
+        .position(|token| matches!(token.kind, TokenKind::Dot))
 }
 
 // The line of the first token.
