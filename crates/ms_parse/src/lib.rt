@@ -113,3 +113,6 @@ fn read_rule(alloc: Global, text: &[u8], piece: &[Token]) -> Result<Option<Small
     }
     Ok(draft.into_rule(line_of(piece)))
 }
+
+#[cfg(test)]
+mod tests;
