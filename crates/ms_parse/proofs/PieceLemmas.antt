@@ -51,6 +51,7 @@ has_piece-last : (t : Token) → is_dot t.kind ≡ false → HasPiece (t ∷ [])
 unfolding pieces_of
 has_piece-last t e = before_pieces-other t.kind t _ e
 
+-- by the test of the first token
 has_piece : (t : Token) (ts : List Token) (b : Bool) → is_dot t.kind ≡ b → HasPiece (t ∷ ts) (piece_len (t ∷ ts))
 has_piece t ts true e = rw (piece_len-dot t ts e) (has_piece-dot t ts e)
 has_piece t [] false e = rw (piece_len-other t [] e) (has_piece-last t e)
@@ -68,6 +69,7 @@ first_piece-cons t ts = record {
   shorter = let positive = piece_len-positive t ts _ refl in rw length-drop (omega arith);
 }
 
+-- tokens that are split where the first piece ends
 pub first_piece : (ts piece after : List Token) (n : ℕ) → (length ts == 0) ≡ false → n ≡ piece_len ts → piece ≡ take n ts → after ≡ drop n ts → IsFirstPiece ts piece after
 first_piece [] piece after n e p q r = cc
 first_piece (t ∷ ts) piece after n e p q r = rw (q, r, p) (first_piece-cons t ts)

@@ -14,19 +14,14 @@ pub record IsReadUpTo (text : List ℕ) (tokens : List Token) (rules : List Smal
   pub bad_line : (line : ℕ) → IsBadLine text (pieces_of rest) line → IsBadLine text (pieces_of tokens) line
   pub within : LieWithin (length text) rest
 
-pub read_up_to_none : (text : List ℕ) (tokens : List Token) → LieWithin (length text) tokens → IsReadUpTo text tokens [] tokens
-read_up_to_none text tokens h = record { statements = λ more s. s; bad_line = λ line b. b; within = h }
-
+-- a token's bytes are among the first n
 abbrev LiesWithin : ℕ → Token → Type 0
 LiesWithin n t = (t.start ≤ t.end) × (t.end ≤ n)
-
--- the parts of tokens lie within the text as the whole does
-pub piece_within : (n : ℕ) (tokens piece after : List Token) → IsFirstPiece tokens piece after → LieWithin n tokens → LieWithin n piece
-piece_within n tokens piece after h w = rw (← take_at piece after _ refl) (All-take (LiesWithin n) (length piece) (piece ++ after) (rw h.joined at w))
 
 after_within : (n : ℕ) (tokens piece after : List Token) → IsFirstPiece tokens piece after → LieWithin n tokens → LieWithin n after
 after_within n tokens piece after h w = rw (← drop_at piece after _ refl) (All-drop (LiesWithin n) (length piece) (piece ++ after) (rw h.joined at w))
 
+-- one more piece, before the statements and the bad line of those after it
 AreStatements-cons : (text : List ℕ) (tokens piece after : List Token) (rule : SmallRule) (more : List SmallRule) → pieces_of tokens ≡ piece ∷ pieces_of after → IsStatement text piece rule → AreStatements text (pieces_of after) more → AreStatements text (pieces_of tokens) (rule ∷ more)
 unfolding AreStatements
 AreStatements-cons text tokens piece after rule more e s m = rw e (s, m)
@@ -40,6 +35,7 @@ unfolding IsBadLine
 IsBadLine-first text tokens piece after line e none at = rw e (inl (none, at))
 
 module _ (text : List ℕ) (tokens : List Token) (rules : List SmallRule) (rest : List Token) (read : IsReadUpTo text tokens rules rest) where
+  -- the next piece is a statement
   pub read_up_to_more : (piece after : List Token) (rule : SmallRule) → IsFirstPiece rest piece after → IsStatement text piece rule → IsReadUpTo text tokens (rules ++ rule ∷ []) after
   read_up_to_more piece after rule first s = record {
     statements = λ more m. rw append_assoc (read.statements (rule ∷ more) (AreStatements-cons text rest piece after rule more first.pieces s m));
@@ -47,6 +43,7 @@ module _ (text : List ℕ) (tokens : List Token) (rules : List SmallRule) (rest 
     within = after_within _ rest piece after first read.within;
   }
 
+  -- no token is left
   pub statements_at_end : rest ≡ [] → AreStatements text (pieces_of tokens) rules
   unfolding AreStatements pieces_of
   statements_at_end e =
@@ -54,5 +51,6 @@ module _ (text : List ℕ) (tokens : List Token) (rules : List SmallRule) (rest 
       let P : List SmallRule → Type 0 = λ rs. AreStatements text (pieces_of tokens) rs in
       subst P (append-nil rules) (read.statements [] nothing)
 
+  -- the next piece is no statement
   pub bad_line_at : (piece after : List Token) (line : ℕ) → IsFirstPiece rest piece after → ((rule : SmallRule) → ¬ IsStatement text piece rule) → line ≡ first_line piece → IsBadLine text (pieces_of tokens) line
   bad_line_at piece after line first none at = read.bad_line line (IsBadLine-first text rest piece after line first.pieces none at)

@@ -11,6 +11,7 @@ use Rattle.ms_parse.specs.Reading.{at_start, after_word}
 abbrev pub after : Draft → List Word → Draft
 after d ws = fold after_word d ws
 
+-- the draft in this state
 abbrev within : State → Draft → Draft
 within s d = record d { state = s }
 
@@ -31,6 +32,7 @@ finished d ls = record d { state = Done; pos = d.pos ++ filter_map (name_where t
 finished-nil : (d : Draft) → within Done d ≡ finished d []
 finished-nil d = rw (append-nil d.pos, append-nil d.neg)
 
+-- a literal, and what follows it
 after-literal : (truth : Bool) (name : List ℕ) (ls : List Literal) (d : Draft) → ((e : Draft) → after (within AfterLiteral e) (tail_words ls) ≡ finished e ls) → after (within LiteralWanted d) (literal_words (record { truth = truth; name = name }) ++ tail_words ls) ≡ finished d (record { truth = truth; name = name } ∷ ls)
 after-literal true name ls d h = h (record d { pos = d.pos ++ name ∷ [] }) ∙ rw append_assoc
 after-literal false name ls d h = h (record d { neg = d.neg ++ name ∷ [] }) ∙ rw append_assoc
@@ -72,6 +74,7 @@ Rests AfterLiteral ls ws = ws ≡ tail_words ls
 Rests Done [] ws = ws ≡ []
 Rests state ls ws = ⊥
 
+-- what the words are the rest of
 abbrev SomeRest : State → List Word → Type 0
 SomeRest s ws = (ls : List Literal) × Rests s ls ws
 

@@ -12,6 +12,7 @@ use Rattle.ms_parse.specs.declared.draft.State.TheVariants.{Done}
 use Rattle.ms_parse.specs.Reading.{at_start, after_word, rule_from}
 use Rattle.ms_parse.proofs.ReadingLemmas.{after, after-spelled, SomeRule, some_rule}
 
+-- the draft after the tokens
 abbrev draft_of : List ℕ → List Token → Draft
 draft_of text piece = after at_start (map (word_of text) piece)
 

@@ -43,7 +43,9 @@ fn tokens_of(alloc: Global, text: &[u8]) -> Result<Tokens, Fail> {
 fn lie_within(tokens: &[Token], length: usize) -> bool
     ensures { IsTrue result → LieWithin length tokens.now }
 {
-    tokens.iter().all(|token| token.start <= token.end && token.end <= length)
+    tokens
+        .iter()
+        .all(|token| token.start <= token.end && token.end <= length)
 }
 
 // `head+positive-negated@line` for each rule, or `!line`.
@@ -94,8 +96,16 @@ fn texts_have_these_statements(rt: HostRuntime) -> Result<(), Fail> {
         ("a . ", "a@1", "a fact"),
         ("a :- b , not c . ", "a+b-c@1", "a rule"),
         (":- not a . ", "-a@1", "a constraint"),
-        ("a :- c , not d , b , not e . ", "a+c+b-d-e@1", "literals in order"),
-        ("a .\nb :-\na .\n:- b . ", "a@1b+a@2+b@4", "statements in lines"),
+        (
+            "a :- c , not d , b , not e . ",
+            "a+c+b-d-e@1",
+            "literals in order",
+        ),
+        (
+            "a .\nb :-\na .\n:- b . ",
+            "a@1b+a@2+b@4",
+            "statements in lines",
+        ),
         ("a b . ", "!1", "two names"),
         ("a .\nb\nc .\n", "!2", "the line of a piece's first token"),
         ("a .\nb\nc\n", "!2", "no dot at the end"),
