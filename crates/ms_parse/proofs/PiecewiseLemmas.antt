@@ -1,7 +1,7 @@
 -- Statement after statement, up to the end or to a piece that is none.
 use Rattle.std.proofs.Common.{◌≡◌, ℕ, ◌≤◌, List, [], ◌∷◌, ◌++◌, length, refl, subst, inl, inr, append-nil, append_assoc}
-use Rattle.std.proofs.lemmas.List.{take_at, drop_at}
-use Rattle.std.proofs.lemmas.List.Elements.{All-take, All-drop}
+use Rattle.std.proofs.lemmas.List.{drop_at}
+use Rattle.std.proofs.lemmas.List.Elements.{All-drop}
 use Rattle.ms_base.specs.declared.token.Token.{Token}
 use Rattle.ms_base.specs.declared.small_rule.SmallRule.{SmallRule}
 use Rattle.ms_base.specs.Tokens.{LieWithin}

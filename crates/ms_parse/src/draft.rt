@@ -1,5 +1,5 @@
 // A rule as far as it was read.
-ghost use Rattle.std.specs.Prelude.{◌≡◌, ◌≤◌, [], length, OnOk};
+ghost use Rattle.std.specs.Prelude.{◌≡◌, ◌≤◌, length, OnOk};
 ghost use Rattle.ms_base.specs.Grammar.{word_of};
 
 use ms_base::memory::OutOfMemory;

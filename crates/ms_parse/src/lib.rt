@@ -1,7 +1,7 @@
 // The statements of a text.
 #![tactic(auto)]
 
-ghost use Rattle.std.specs.Prelude.{length, ◌≡◌, ◌++◌, ◌<◌, [], MatchOption, IfOk, IfSome, IfNone, position};
+ghost use Rattle.std.specs.Prelude.{length, ◌≡◌, [], MatchOption, IfOk, IfSome, IfNone, position};
 ghost use Rattle.ms_base.specs.Tokens.{LieWithin};
 ghost use Rattle.ms_base.specs.Grammar.{IsStatement, first_line};
 ghost use Rattle.ms_base.specs.declared.small_rule.SmallRule.{SmallRule};
