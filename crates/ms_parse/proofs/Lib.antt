@@ -1,0 +1,4 @@
+mod PieceLemmas
+mod ReadingLemmas
+mod StatementLemmas
+mod PiecewiseLemmas
