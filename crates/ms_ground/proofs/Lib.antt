@@ -1,0 +1,4 @@
+pub mod Ordered
+pub mod Search
+pub mod Bases
+pub mod Numbers
