@@ -1,4 +1,6 @@
+pub mod Bases
+pub mod Front
+pub mod Members
+pub mod Numbers
 pub mod Ordered
 pub mod Search
-pub mod Bases
-pub mod Numbers

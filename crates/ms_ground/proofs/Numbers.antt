@@ -4,9 +4,8 @@ use Rattle.std.proofs.lemmas.List.Elements.{Contains-append_left, Contains-push,
 use Rattle.std.proofs.lemmas.Option.{slice_get_within, get_or_from_slice_get}
 use Rattle.std.specs.Prelude.{◌↔◌}
 use Rattle.std.specs.List.{Contains, slice_get}
-use Rattle.std.specs.List.Sorted.{IsStrictlyIncreasing}
 use Rattle.ms_base.specs.Grounding.{AtomName, AreNumbers}
-use Rattle.ms_ground.specs.Numbering.{IsPlaceOf}
+use Rattle.ms_ground.specs.Numbering.{IsPlaceOf, IsSetOf}
 
 -- a number of one of the names
 abbrev pub IsAmongNumbers : List AtomName → List AtomName → ℕ → Type 0
@@ -56,9 +55,8 @@ module _ {names of : List AtomName} {numbers : List ℕ} (name : AtomName) (foun
     );
   }
 
--- the numbers in rising order
-pub AreNumbers-from_found : (names of : List AtomName) (numbers ids : List ℕ) → AreFound names of numbers → IsStrictlyIncreasing ids → ((a : ℕ) → Contains ids a ↔ Contains numbers a) → AreNumbers names of ids
-AreNumbers-from_found names of numbers ids found rising same = record {
-  rising = rising;
-  members = λ a. (λ h. (found.members a).0 ((same a).0 h), λ h. (same a).1 ((found.members a).1 h));
+pub AreNumbers-from_found : (names of : List AtomName) (numbers ids : List ℕ) → AreFound names of numbers → IsSetOf numbers ids → AreNumbers names of ids
+AreNumbers-from_found names of numbers ids found set = record {
+  rising = set.rising;
+  members = λ a. (λ h. (found.members a).0 ((set.members a).0 h), λ h. (set.members a).1 ((found.members a).1 h));
 }

@@ -1,6 +1,6 @@
 -- The numbers that a list of names gives: the place of each name.
-use Rattle.std.specs.Prelude.{ℕ, ◌≡◌, ◌^◌, ◌<◌, List, Option, Some, MatchOption, Contains, length, slice_get}
-use Rattle.std.specs.List.Sorted.{IsStrictlySortedBy}
+use Rattle.std.specs.Prelude.{ℕ, ◌≡◌, ◌^◌, ◌<◌, ◌↔◌, List, Option, Some, MatchOption, Contains, length, slice_get}
+use Rattle.std.specs.List.Sorted.{IsStrictlyIncreasing, IsStrictlySortedBy}
 use Rattle.std.specs.Ordering.{nat_cmp}
 use Rattle.std.specs.Cmp.Lexicographic.{slice_cmp}
 use Rattle.ms_base.specs.Grounding.{AtomName}
@@ -18,3 +18,8 @@ pub record IsPlaceOf (names : List AtomName) (name : AtomName) (place : ℕ) : T
 -- the number of the name, or none where it is no name of the list
 abbrev pub IsNumberOf : List AtomName → AtomName → Option ℕ → Type 0
 IsNumberOf names name number = MatchOption number (¬ Contains names name) (IsPlaceOf names name)
+
+-- The numbers of the list in rising order, each of them once.
+pub record IsSetOf (numbers ids : List ℕ) : Type 0 where
+  pub rising : IsStrictlyIncreasing ids
+  pub members : (a : ℕ) → Contains ids a ↔ Contains numbers a

@@ -1,9 +1,8 @@
 // The base: the names of its atoms, and the numbers that they give.
-ghost use Rattle.std.specs.Prelude.{ℕ, ◌≡◌, ◌↔◌, IfOk, MatchOption, Contains, All, map};
+ghost use Rattle.std.specs.Prelude.{◌≡◌, IfOk, MatchOption, Contains, All, map};
 ghost use Rattle.std.specs.List.{filter_map};
-ghost use Rattle.std.specs.List.Sorted.{IsStrictlyIncreasing};
 ghost use Rattle.ms_base.specs.Grounding.{IsBaseOf, AreNumbers};
-ghost use Rattle.ms_ground.specs.Numbering.{IsNumberOf};
+ghost use Rattle.ms_ground.specs.Numbering.{IsNumberOf, IsSetOf};
 
 use ms_base::atom_id::AtomId;
 use ms_base::ground_rule::AtomIds;
@@ -40,7 +39,7 @@ impl Base {
         let mut heads = heads(alloc, texts)?;
         heads.sort()?;
         heads.dedup();
-        if u32::try_from(heads.len()).is_err() {
+        if heads.len() > u32::MAX as usize {
             return Err(OutOfMemory);
         }
         Ok(Base {
@@ -118,8 +117,7 @@ fn copies(alloc: Global, names: &[&Bytes]) -> Result<Names, OutOfMemory>
 
 /// The numbers in rising order, each of them once.
 fn each_once(mut numbers: Vec<AtomId>) -> Result<AtomIds, OutOfMemory>
-    ensures rising { IfOk result IsStrictlyIncreasing }
-    ensures members { IfOk result (λ ids. (a : ℕ) → Contains ids a ↔ Contains numbers.items a) }
+    ensures { IfOk result (IsSetOf numbers.items) }
 {
     numbers.sort()?;
     numbers.dedup();

@@ -5,16 +5,14 @@ use Rattle.std.proofs.lemmas.Map.Keys.{IsStrictlyIncreasing-dedup}
 use Rattle.std.proofs.Common.{◌∙◌}
 use Rattle.ms_ground.proofs.names.each_once.Goals as goal
 
-pub returns-clause-rising : goal.returns-clause-rising
-returns-clause-rising c =
-    let is = c.from_vec.ensures ∙ dedup_is _ _ _ c.dedup.ensures.filtered in
-    rw is (IsStrictlyIncreasing-dedup _ c.in_ok-sort.ensures.sorted)
-
-pub returns-clause-members : goal.returns-clause-members
-returns-clause-members c =
+pub returns : goal.returns
+returns c =
     let is = c.from_vec.ensures ∙ dedup_is _ _ _ c.dedup.ensures.filtered in
     let moved = c.in_ok-sort.ensures.permutation in
-    λ a. (
-      λ h. Contains-permutation _ _ a (IsPermutation-sym _ _ moved) (Contains-from_dedup _ _ a (rw is at h)),
-      λ h. rw is (Contains-dedup_nat _ a (Contains-permutation _ _ a moved h))
-    )
+    record {
+      rising = rw is (IsStrictlyIncreasing-dedup _ c.in_ok-sort.ensures.sorted);
+      members = λ a. (
+        λ h. Contains-permutation _ _ a (IsPermutation-sym _ _ moved) (Contains-from_dedup _ _ a (rw is at h)),
+        λ h. rw is (Contains-dedup_nat _ a (Contains-permutation _ _ a moved h))
+      );
+    }
