@@ -3,4 +3,5 @@ pub mod Front
 pub mod Members
 pub mod Numbers
 pub mod Ordered
+pub mod Rules
 pub mod Search

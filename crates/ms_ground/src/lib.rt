@@ -1,9 +1,10 @@
 // The ground module of rules of plain names.
 #![tactic(auto)]
 
-ghost use Rattle.std.specs.Prelude.{IfOk, All, Any, Contains, length};
+ghost use Rattle.std.specs.Prelude.{IfOk, All, length};
 ghost use Rattle.ms_base.specs.AnswerSets.{IsRuleOver};
-ghost use Rattle.ms_base.specs.Grounding.{IsBaseOf, IsGroundRule, IsModule};
+ghost use Rattle.ms_base.specs.Grounding.{IsBaseOf, IsModule};
+ghost use Rattle.ms_ground.specs.GroundRules.{AreGroundRules};
 
 mod names;
 mod rule;
@@ -42,8 +43,7 @@ pub fn ground(alloc: Global, texts: &[SmallRule]) -> Result<NamedModule, OutOfMe
 /// The ground rules of the rules whose positive atoms are all in the base, in the order of the text.
 fn ground_rules(alloc: Global, base: &Base, texts: &[SmallRule]) -> Result<Vec<GroundRule>, OutOfMemory>
     requires { IsBaseOf texts.now base.now }
-    ensures each { IfOk result (λ rules. All (λ rule. Any (λ text. IsGroundRule base.now text rule) texts.now) rules.items) }
-    ensures every { IfOk result (λ rules. All (λ text. All (Contains base.now) text.pos → Any (IsGroundRule base.now text) rules.items) texts.now) }
+    ensures { IfOk result (λ rules. AreGroundRules base.now texts.now rules.items) }
 {
     let mut rules = Vec::new(alloc);
     for text in texts {
