@@ -1,11 +1,11 @@
 -- Lists that are strictly in order, and their images.
-use Rattle.std.proofs.Common.{◌≡◌, ℕ, ◌+◌, ◌<◌, ◌≤◌, List, [], ◌∷◌, Option, Some, map, length, get_or, ap, ◌∙◌, subst, sym, arith, Ordering, Less, Equal, Greater}
+use Rattle.std.proofs.Common.{◌≡◌, ◌≢◌, ℕ, ◌+◌, ◌<◌, ◌≤◌, List, [], ◌∷◌, Option, Some, map, length, get_or, ap, ◌∙◌, subst, sym, arith, Ordering, Less, Equal, Greater}
 use Rattle.std.proofs.lemmas.Bool.{cases_lt}
 use Rattle.std.proofs.lemmas.Cmp.{tied_itself}
 use Rattle.std.proofs.lemmas.Map.Keys.{Less-from_sorted}
 use Rattle.std.proofs.lemmas.Option.{slice_get_within, get_or_from_slice_get}
 use Rattle.std.specs.Cmp.{IsTotalOrder}
-use Rattle.std.specs.List.{AllByRecursion, slice_get}
+use Rattle.std.specs.List.{AllByRecursion, AllPairs, slice_get}
 use Rattle.std.specs.List.Sorted.{IsSorted, IsStrictlySortedBy}
 use Rattle.std.specs.Ordering.{is_lt, ordering_reverse}
 
@@ -32,6 +32,10 @@ module _ {K : Type 0} {R : K → K → Ordering} (o : IsTotalOrder R) where
       let not_after : i < j → ⊥ = no_later_place xs x i j strict at_i at_j in
       let not_before : j < i → ⊥ = no_later_place xs x j i strict at_j at_i in
       omega arith
+
+  pub apart_from_strict : (xs : List K) → IsStrictlySortedBy R xs → AllPairs (λ x y. x ≢ y) xs
+  apart_from_strict xs strict i j d before within same =
+      not_below_itself (get_or xs j d) (rw same at (Less-from_sorted R xs i j d strict before within))
 
 module _ {X K : Type 0} (f : X → K) (R : K → K → Ordering) where
   AllByRecursion-map : (x : X) (xs : List X) → AllByRecursion (λ y. R (f x) (f y) ≡ Less) xs → AllByRecursion (λ k. R (f x) k ≡ Less) (map f xs)
