@@ -44,6 +44,6 @@ module _ {X : Type 0} (name_of : X → AtomName) where
       ordered = IsStrictlySortedBy-map name_of (slice_cmp nat_cmp) _ (IsStrictlySortedBy-dedup (on_texts name_of) (λ x y. texts_ties (name_of x) (name_of y)) sorted in_order);
       heads = λ name. (
         λ h. Any-from_filter_map (λ rule. rule.head) texts name (rw are at (named_in_heads name h)),
-        λ h. named_in_kept name (rw are (Contains-filter_map (λ rule. rule.head) texts name h))
+        λ h. named_in_kept name (rw are (Contains-filter_map (λ rule. rule.head) texts name h)),
       );
     }

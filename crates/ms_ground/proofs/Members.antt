@@ -1,5 +1,5 @@
 -- The elements of a list that is made from another.
-use Rattle.std.proofs.Common.{◌≡◌, ℕ, zero, suc, ◌<◌, List, [], ◌∷◌, Option, Some, None, map, length, get_or, ap, ◌∙◌, refl, arith}
+use Rattle.std.proofs.Common.{◌≡◌, zero, suc, List, [], ◌∷◌, Option, Some, None, map, ap, ◌∙◌, refl, arith}
 use Rattle.std.specs.List.{Any, Contains, cons_option, filter_map}
 
 Contains-next : {X : Type 0} (y : X) (ys : List X) (x : X) → Contains ys x → Contains (y ∷ ys) x

@@ -1,16 +1,15 @@
 -- The module of rules: its ground rules as a set, and each of them over the base.
-use Rattle.std.proofs.Common.{◌≡◌, ℕ, ◌<◌, List, Option, Some, None, length, get_or}
+use Rattle.std.proofs.Common.{ℕ, ◌<◌, List, Option, Some, None, length, get_or}
 use Rattle.std.proofs.lemmas.List.Elements.{Contains-get_or}
 use Rattle.std.proofs.lemmas.List.Filters.{All-dedup}
 use Rattle.std.proofs.lemmas.List.Kept.{Contains-dedup, IsStrictlySortedBy-dedup}
 use Rattle.std.proofs.lemmas.List.Sorted.{All-permutation, Contains-permutation}
 use Rattle.std.proofs.lemmas.Option.{slice_get_within}
-use Rattle.std.specs.List.{All, Any, Contains, dedup}
+use Rattle.std.specs.List.{All, Any, dedup}
 use Rattle.std.specs.List.Sorted.{IsPermutation, IsSorted}
 use Rattle.ms_base.specs.declared.small_rule.SmallRule.{SmallRule}
 use Rattle.ms_base.specs.declared.ground_rule.GroundRule.{GroundRule}
 use Rattle.ms_base.specs.declared.ground_rule.GroundKind.{GroundKind}
-use Rattle.ms_base.specs.declared.ground_rule.GroundKind.TheVariants.{Normal, Constraint}
 use Rattle.ms_base.specs.contracts.ground_rule.GroundRulePartialEq.TheImpl as derived
 use Rattle.ms_base.specs.contracts.ground_rule.GroundRuleOrd.TheImpl as order
 use Rattle.ms_base.specs.contracts.ground_rule.GroundRuleEq.TheImpl.Laws.{laws-law}
@@ -37,8 +36,8 @@ module _ (names : List AtomName) (texts : List SmallRule) (rules sorted : List G
   IsModule-from_rules base are in_order = record {
     base = base;
     each =
-      let IsOfOne : GroundRule → Type 0 = λ rule. Any (λ text. IsGroundRule names text rule) texts in
-      All-dedup (derived.ghosts).eq IsOfOne sorted (All-permutation IsOfOne rules sorted moved are.each);
+        let IsOfOne : GroundRule → Type 0 = λ rule. Any (λ text. IsGroundRule names text rule) texts in
+        All-dedup (derived.ghosts).eq IsOfOne sorted (All-permutation IsOfOne rules sorted moved are.each);
     every = λ k d within known. kept (get_or texts k d) (are.every k d within known);
     once = apart_from_strict total-law (once_each sorted) (IsStrictlySortedBy-dedup total-law matches_eq-law sorted in_order);
   }

@@ -1,6 +1,6 @@
 -- The numbers of names, as they are collected one name after another.
-use Rattle.std.proofs.Common.{◌≡◌, ℕ, ◌<◌, List, [], ◌∷◌, ◌++◌, Some, length, get_or, sym, ap, ◌∙◌, subst, arith, ⊎_elim}
-use Rattle.std.proofs.lemmas.List.Elements.{Contains-append_left, Contains-push, Contains-push_cases, Contains-get_or}
+use Rattle.std.proofs.Common.{◌≡◌, ℕ, List, [], ◌∷◌, ◌++◌, Some, sym, ap, ◌∙◌, subst, arith, ⊎_elim}
+use Rattle.std.proofs.lemmas.List.Elements.{Contains-append_left, Contains-push, Contains-push_cases}
 use Rattle.std.proofs.lemmas.Option.{slice_get_within, get_or_from_slice_get}
 use Rattle.std.specs.Prelude.{◌↔◌}
 use Rattle.std.specs.List.{Contains, slice_get}
@@ -29,10 +29,10 @@ module _ {names of : List AtomName} {numbers : List ℕ} (name : AtomName) (foun
     members = λ a. (
       λ h. let (of_name, listed, there) = (found.members a).0 h in (of_name, Contains-append_left of (name ∷ []) of_name listed, there),
       λ (of_name, listed, there).
-        ⊎_elim
-        (λ (earlier : Contains of of_name). (found.members a).1 (of_name, earlier, there))
-        (λ (now : name ≡ of_name). absurd (unknown (Contains-from_slice_get names a name (there ∙ ap Some (sym now)))))
-        (Contains-push_cases of name of_name listed)
+          ⊎_elim
+          (λ (earlier : Contains of of_name). (found.members a).1 (of_name, earlier, there))
+          (λ (now : name ≡ of_name). absurd (unknown (Contains-from_slice_get names a name (there ∙ ap Some (sym now)))))
+          (Contains-push_cases of name of_name listed),
     );
   }
 
@@ -40,18 +40,18 @@ module _ {names of : List AtomName} {numbers : List ℕ} (name : AtomName) (foun
   AreFound-more a place = record {
     members = λ b. (
       λ h.
-        ⊎_elim
-        (λ (earlier : Contains numbers b).
+          ⊎_elim
+          (λ (earlier : Contains numbers b).
           let one = (found.members b).0 earlier in (one.0, Contains-append_left of (name ∷ []) one.0 one.1, one.2))
-        (λ (now : a ≡ b). (name, Contains-push of name, ap (slice_get names) (sym now) ∙ place.there))
-        (Contains-push_cases numbers a b h),
+          (λ (now : a ≡ b). (name, Contains-push of name, ap (slice_get names) (sym now) ∙ place.there))
+          (Contains-push_cases numbers a b h),
       λ (of_name, listed, there).
-        ⊎_elim
-        (λ (earlier : Contains of of_name). Contains-append_left numbers (a ∷ []) b ((found.members b).1 (of_name, earlier, there)))
-        (λ (now : name ≡ of_name).
+          ⊎_elim
+          (λ (earlier : Contains of of_name). Contains-append_left numbers (a ∷ []) b ((found.members b).1 (of_name, earlier, there)))
+          (λ (now : name ≡ of_name).
           let same = place.only b (there ∙ ap Some (sym now)) in
           subst (Contains (numbers ++ a ∷ [])) (sym same) (Contains-push numbers a))
-        (Contains-push_cases of name of_name listed)
+          (Contains-push_cases of name of_name listed),
     );
   }
 

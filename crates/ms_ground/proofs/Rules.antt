@@ -1,5 +1,5 @@
 -- Ground rules, as they are collected one rule after another.
-use Rattle.std.proofs.Common.{◌≡◌, ℕ, ◌<◌, List, [], ◌∷◌, ◌++◌, length, arith, length-append, ◌∙◌}
+use Rattle.std.proofs.Common.{List, [], ◌∷◌, ◌++◌, arith, length-append, ◌∙◌}
 use Rattle.std.proofs.lemmas.List.{get_or_append_left}
 use Rattle.std.proofs.lemmas.List.Elements.{All-push, All-weaker}
 use Rattle.std.proofs.lemmas.List.Quantifiers.{Any-push}
@@ -32,6 +32,6 @@ module _ {names : List AtomName} {texts : List SmallRule} {rules : List GroundRu
   AreGroundRules-more rule is = record {
     each = All-push (IsOfOne names (texts ++ text ∷ [])) rules rule of_more (Any-push (λ t. IsGroundRule names t rule) texts text is);
     every = All-push (HasOne names (rules ++ rule ∷ [])) texts text
-      (All-weaker (HasOne names rules) (HasOne names (rules ++ rule ∷ [])) (λ t h known. Any-append_left (IsGroundRule names t) rules (rule ∷ []) (h known)) texts so_far.every)
-      (λ known. Any-push (IsGroundRule names text) rules rule is);
+        (All-weaker (HasOne names rules) (HasOne names (rules ++ rule ∷ [])) (λ t h known. Any-append_left (IsGroundRule names t) rules (rule ∷ []) (h known)) texts so_far.every)
+        (λ known. Any-push (IsGroundRule names text) rules rule is);
   }

@@ -1,12 +1,10 @@
 -- Ground rules are equal where their derived `==` says so.
-use Rattle.std.proofs.Common.{◌≡◌, ℕ, Bool, true, false, Option, Some, None, refl, ap, eqb, eqb-true}
+use Rattle.std.proofs.Common.{◌≡◌, ℕ, true, Option, Some, None, refl, ap, eqb, eqb-true}
 use Rattle.std.proofs.lemmas.Bool.{false≢true}
 use Rattle.std.proofs.lemmas.Slice.Eq.{bytes_eq-Decides}
 use Rattle.std.specs.Cmp.{first_so, second_so}
-use Rattle.std.specs.Cmp.Lexicographic.{pointwise}
 use Rattle.std.specs.Option.{option_eq}
 use Rattle.ms_base.specs.declared.ground_rule.GroundRule.{GroundRule}
-use Rattle.ms_base.specs.declared.ground_rule.GroundKind.{GroundKind}
 use Rattle.ms_base.specs.contracts.ground_rule.GroundKind.{the_type}
 use Rattle.ms_base.specs.contracts.ground_rule.GroundRulePartialEq.TheImpl as derived
 use denote.Enum.Bare.{same_true}

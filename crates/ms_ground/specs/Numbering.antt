@@ -1,9 +1,9 @@
 -- The numbers that a list of names gives: the place of each name.
-use Rattle.std.specs.Prelude.{ℕ, ◌≡◌, ◌^◌, ◌<◌, ◌↔◌, List, Option, Some, MatchOption, Contains, length, slice_get}
+use Rattle.std.specs.Prelude.{ℕ, ◌≡◌, ◌^◌, ◌<◌, ◌↔◌, List, Option, Some, MatchOption, All, Contains, length, slice_get}
 use Rattle.std.specs.List.Sorted.{IsStrictlyIncreasing, IsStrictlySortedBy}
 use Rattle.std.specs.Ordering.{nat_cmp}
 use Rattle.std.specs.Cmp.Lexicographic.{slice_cmp}
-use Rattle.ms_base.specs.Grounding.{AtomName}
+use Rattle.ms_base.specs.Grounding.{AtomName, AreNumbers}
 
 -- The names are in term order, and there are few enough that each place is a number of 32 bits.
 pub record AreNumbered (names : List AtomName) : Type 0 where
@@ -23,3 +23,7 @@ IsNumberOf names name number = MatchOption number (¬ Contains names name) (IsPl
 pub record IsSetOf (numbers ids : List ℕ) : Type 0 where
   pub rising : IsStrictlyIncreasing ids
   pub members : (a : ℕ) → Contains ids a ↔ Contains numbers a
+
+-- The numbers of the names, or none where one of them is outside the base.
+abbrev pub AreNumbersOfAll : List AtomName → List AtomName → Option (List ℕ) → Type 0
+AreNumbersOfAll names of numbers = MatchOption numbers (¬ All (Contains names) of) (λ ids. All (Contains names) of × AreNumbers names of ids)

@@ -32,7 +32,7 @@ pub fn ground(alloc: Global, texts: &[SmallRule]) -> Result<NamedModule, OutOfMe
 {
     let base = Base::of_heads(alloc, texts)?;
     let mut rules = ground_rules(alloc, &base, texts)?;
-    rules.sort()?;
+    rules.sort_unstable();
     rules.dedup();
     Ok(NamedModule {
         names: base.into_names(),
@@ -41,7 +41,11 @@ pub fn ground(alloc: Global, texts: &[SmallRule]) -> Result<NamedModule, OutOfMe
 }
 
 /// The ground rules of the rules whose positive atoms are all in the base, in the order of the text.
-fn ground_rules(alloc: Global, base: &Base, texts: &[SmallRule]) -> Result<Vec<GroundRule>, OutOfMemory>
+fn ground_rules(
+    alloc: Global,
+    base: &Base,
+    texts: &[SmallRule],
+) -> Result<Vec<GroundRule>, OutOfMemory>
     requires { IsBaseOf texts.now base.now }
     ensures { IfOk result (λ rules. AreGroundRules base.now texts.now rules.items) }
 {
@@ -53,3 +57,6 @@ fn ground_rules(alloc: Global, base: &Base, texts: &[SmallRule]) -> Result<Vec<G
     }
     Ok(rules)
 }
+
+#[cfg(test)]
+mod tests;

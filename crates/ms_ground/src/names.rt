@@ -1,8 +1,8 @@
 // The base: the names of its atoms, and the numbers that they give.
-ghost use Rattle.std.specs.Prelude.{◌≡◌, IfOk, MatchOption, Contains, All, map};
+ghost use Rattle.std.specs.Prelude.{◌≡◌, IfOk, map};
 ghost use Rattle.std.specs.List.{filter_map};
 ghost use Rattle.ms_base.specs.Grounding.{IsBaseOf, AreNumbers};
-ghost use Rattle.ms_ground.specs.Numbering.{IsNumberOf, IsSetOf};
+ghost use Rattle.ms_ground.specs.Numbering.{AreNumbersOfAll, IsNumberOf, IsSetOf};
 
 use ms_base::atom_id::AtomId;
 use ms_base::ground_rule::AtomIds;
@@ -37,7 +37,7 @@ impl Base {
         ensures { IfOk result (IsBaseOf texts.now) }
     {
         let mut heads = heads(alloc, texts)?;
-        heads.sort()?;
+        heads.sort_unstable();
         heads.dedup();
         if heads.len() > u32::MAX as usize {
             return Err(OutOfMemory);
@@ -68,27 +68,31 @@ impl Base {
     pub fn numbers_of_known(&self, alloc: Global, names: &[Bytes]) -> Result<AtomIds, OutOfMemory>
         ensures { IfOk result (AreNumbers self.now names.now) }
     {
-        let mut numbers = Vec::new(alloc);
+        let mut numbers = Vec::with_capacity(alloc, names.len())?;
         for name in names {
             if let Some(number) = self.number_of(name) {
                 numbers.push(number)?;
             }
         }
-        each_once(numbers)
+        Ok(each_once(numbers))
     }
 
     /// The numbers of the names, or none where one of them is outside the base.
-    pub fn numbers_of_all(&self, alloc: Global, names: &[Bytes]) -> Result<Option<AtomIds>, OutOfMemory>
-        ensures { IfOk result (λ found. MatchOption found (¬ All (Contains self.now) names.now) (λ numbers. All (Contains self.now) names.now × AreNumbers self.now names.now numbers)) }
+    pub fn numbers_of_all(
+        &self,
+        alloc: Global,
+        names: &[Bytes],
+    ) -> Result<Option<AtomIds>, OutOfMemory>
+        ensures { IfOk result (AreNumbersOfAll self.now names.now) }
     {
-        let mut numbers = Vec::new(alloc);
+        let mut numbers = Vec::with_capacity(alloc, names.len())?;
         for name in names {
             let Some(number) = self.number_of(name) else {
                 return Ok(None);
             };
             numbers.push(number)?;
         }
-        Ok(Some(each_once(numbers)?))
+        Ok(Some(each_once(numbers)))
     }
 }
 
@@ -116,10 +120,10 @@ fn copies(alloc: Global, names: &[&Bytes]) -> Result<Names, OutOfMemory>
 }
 
 /// The numbers in rising order, each of them once.
-fn each_once(mut numbers: Vec<AtomId>) -> Result<AtomIds, OutOfMemory>
-    ensures { IfOk result (IsSetOf numbers.items) }
+fn each_once(mut numbers: Vec<AtomId>) -> AtomIds
+    ensures { IsSetOf numbers.items result }
 {
-    numbers.sort()?;
+    numbers.sort_unstable();
     numbers.dedup();
-    Ok(Seq::from_vec(numbers))
+    Seq::from_vec(numbers)
 }

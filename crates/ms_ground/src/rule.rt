@@ -1,7 +1,8 @@
 // The ground rule of one rule over a base.
-ghost use Rattle.std.specs.Prelude.{All, Contains, IfOk, MatchOption};
+ghost use Rattle.std.specs.Prelude.{Contains, IfOk};
 ghost use Rattle.std.specs.Option.{ForSome};
-ghost use Rattle.ms_base.specs.Grounding.{IsGroundRule, IsNumberedHead};
+ghost use Rattle.ms_base.specs.Grounding.{IsNumberedHead};
+ghost use Rattle.ms_ground.specs.GroundRules.{IsGroundRuleOrNone};
 
 use crate::names::Base;
 use ms_base::atom_id::AtomId;
@@ -12,9 +13,13 @@ use ms_base::small_rule::SmallRule;
 use std::alloc::Global;
 
 /// The ground rule of a rule whose head is in the base, or none where a positive atom is outside it.
-pub fn ground_rule(alloc: Global, base: &Base, text: &SmallRule) -> Result<Option<GroundRule>, OutOfMemory>
+pub fn ground_rule(
+    alloc: Global,
+    base: &Base,
+    text: &SmallRule,
+) -> Result<Option<GroundRule>, OutOfMemory>
     requires { ForSome text.now.head (Contains base.now) }
-    ensures { IfOk result (λ found. MatchOption found (¬ All (Contains base.now) text.now.pos) (IsGroundRule base.now text.now)) }
+    ensures { IfOk result (IsGroundRuleOrNone base.now text.now) }
 {
     let Some(pos) = base.numbers_of_all(alloc, text.pos.as_slice())? else {
         return Ok(None);

@@ -9,7 +9,7 @@ module_of : (c : After-from_vec) → IsModule c.args.texts.now c.into_names.resu
 module_of c =
     let kept = c.from_vec.ensures ∙ dedup_is _ _ _ c.dedup.ensures.filtered in
     rw (c.into_names.ensures, kept)
-    (IsModule-from_rules c.in_ok-base.base c.args.texts.now _ _ c.in_ok-sort.ensures.permutation c.in_ok-base.ensures c.in_ok-rules.ensures c.in_ok-sort.ensures.sorted)
+    (IsModule-from_rules c.in_ok-base.base c.args.texts.now _ _ c.sort_unstable.ensures.permutation c.in_ok-base.ensures c.in_ok-rules.ensures c.sort_unstable.ensures.sorted)
 
 pub returns-clause-exact : goal.returns-clause-exact
 returns-clause-exact c = module_of c

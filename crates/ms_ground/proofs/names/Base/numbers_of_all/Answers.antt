@@ -1,9 +1,9 @@
-use Rattle.std.proofs.Common.{◌+◌, take, subst, sym}
+use Rattle.std.proofs.Common.{subst, sym}
 use Rattle.std.proofs.lemmas.List.{take_all}
 use Rattle.std.proofs.lemmas.List.Elements.{All-push}
 use Rattle.std.specs.List.{Contains}
 use Rattle.ms_ground.proofs.Front.{take_read}
-use Rattle.ms_ground.proofs.Numbers.{AreFound, AreFound-more, AreNumbers-from_found, Contains-from_slice_get}
+use Rattle.ms_ground.proofs.Numbers.{AreFound-more, AreNumbers-from_found, Contains-from_slice_get}
 use Rattle.ms_ground.proofs.names.Base.numbers_of_all.Goals as goal
 
 pub loop-name-preserved : goal.loop-name-preserved
@@ -19,7 +19,7 @@ pub returns : goal.returns
 returns c =
     let all = take_all _ c.args.names.now c.loop-name-test.false in
     let found = rw all at c.loop-name.invariant.found in
-    (rw all at c.loop-name.invariant.known, AreNumbers-from_found _ _ _ _ found c.in_ok-each_once.ensures)
+    (rw all at c.loop-name.invariant.known, AreNumbers-from_found _ _ _ _ found c.each_once.ensures)
 
 pub returns-in_default : goal.returns-in_default
 returns-in_default c = λ all.

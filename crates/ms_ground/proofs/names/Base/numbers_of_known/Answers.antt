@@ -1,8 +1,6 @@
-use Rattle.std.proofs.Common.{◌+◌, take}
 use Rattle.std.proofs.lemmas.List.{take_all}
-use Rattle.std.proofs.lemmas.Result.{IfOk-weaker}
 use Rattle.ms_ground.proofs.Front.{take_read}
-use Rattle.ms_ground.proofs.Numbers.{AreFound, AreFound-skip, AreFound-more, AreNumbers-from_found}
+use Rattle.ms_ground.proofs.Numbers.{AreFound-skip, AreFound-more, AreNumbers-from_found}
 use Rattle.ms_ground.proofs.names.Base.numbers_of_known.Goals as goal
 use Rattle.ms_ground.proofs.names.Base.numbers_of_known.Goals.{in-Some+in_ok-push, in_default}
 
@@ -17,4 +15,4 @@ loop-name-preserved c =
 pub returns : goal.returns
 returns c =
     let found = rw (take_all _ c.args.names.now c.loop-name-test.false) at c.loop-name.invariant in
-    IfOk-weaker _ _ _ (λ ids. AreNumbers-from_found _ _ _ ids found) c.each_once.ensures
+    AreNumbers-from_found _ _ _ _ found c.each_once.ensures

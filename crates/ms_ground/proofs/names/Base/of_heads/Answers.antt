@@ -1,4 +1,4 @@
-use Rattle.std.proofs.Common.{arith, map, ap, ◌∙◌, length}
+use Rattle.std.proofs.Common.{arith}
 use Rattle.std.proofs.lemmas.List.{length-map}
 use Rattle.std.proofs.lemmas.List.Filters.{dedup_is}
 use Rattle.ms_base.specs.Grounding.{IsBaseOf}
@@ -10,7 +10,7 @@ of_copies : (c : In_ok-copies) → IsBaseOf c.args.texts.now c.in_ok-copies.fiel
 of_copies c =
     let kept = dedup_is _ _ _ c.dedup.ensures.filtered in
     rw (c.in_ok-copies.ensures, c.as_slice.ensures.value, kept)
-    (IsBaseOf-from_heads (λ head. head.now) _ _ c.in_ok-sort.ensures.permutation c.args.texts.now c.in_ok-heads.ensures c.in_ok-sort.ensures.sorted)
+    (IsBaseOf-from_heads (λ head. head.now) _ _ c.sort_unstable.ensures.permutation c.args.texts.now c.in_ok-heads.ensures c.sort_unstable.ensures.sorted)
 
 pub invariant_of-result : goal.invariant_of-result
 invariant_of-result c = record {
