@@ -1,0 +1,2 @@
+pub mod GroundRules
+pub mod Numbering

@@ -3,12 +3,18 @@
 
 ghost use Rattle.std.specs.Prelude.{IfOk, All, length};
 ghost use Rattle.ms_base.specs.AnswerSets.{IsRuleOver};
-ghost use Rattle.ms_base.specs.Grounding.{IsModule};
+ghost use Rattle.ms_base.specs.Grounding.{IsBaseOf, IsModule};
+ghost use Rattle.ms_ground.specs.GroundRules.{AreGroundRules};
 
-use ms_base::ground_rule::GroundRules;
+mod names;
+mod rule;
+
+use ms_base::ground_rule::{GroundRule, GroundRules};
 use ms_base::memory::OutOfMemory;
 use ms_base::seq::Seq;
 use ms_base::small_rule::{Names, SmallRule};
+use names::Base;
+use rule::ground_rule;
 use std::alloc::Global;
 
 /// A base of plain names, in term order, and the rules over it. The number of an atom is the place of its
@@ -24,7 +30,33 @@ pub fn ground(alloc: Global, texts: &[SmallRule]) -> Result<NamedModule, OutOfMe
     ensures exact { IfOk result (λ m. IsModule texts.now m.names m.rules) }
     ensures over_base { IfOk result (λ m. All (IsRuleOver (length m.names)) m.rules) }
 {
-    let _ = texts;
-    let _ = alloc;
-    Err(OutOfMemory)
+    let base = Base::of_heads(alloc, texts)?;
+    let mut rules = ground_rules(alloc, &base, texts)?;
+    rules.sort_unstable();
+    rules.dedup();
+    Ok(NamedModule {
+        names: base.into_names(),
+        rules: Seq::from_vec(rules),
+    })
 }
+
+/// The ground rules of the rules whose positive atoms are all in the base, in the order of the text.
+fn ground_rules(
+    alloc: Global,
+    base: &Base,
+    texts: &[SmallRule],
+) -> Result<Vec<GroundRule>, OutOfMemory>
+    requires { IsBaseOf texts.now base.now }
+    ensures { IfOk result (λ rules. AreGroundRules base.now texts.now rules.items) }
+{
+    let mut rules = Vec::new(alloc);
+    for text in texts {
+        if let Some(rule) = ground_rule(alloc, base, text)? {
+            rules.push(rule)?;
+        }
+    }
+    Ok(rules)
+}
+
+#[cfg(test)]
+mod tests;

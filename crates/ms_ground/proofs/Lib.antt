@@ -1,0 +1,9 @@
+pub mod Bases
+pub mod Front
+pub mod Members
+pub mod Modules
+pub mod Numbers
+pub mod Ordered
+pub mod Rules
+pub mod SameRules
+pub mod Search
