@@ -145,7 +145,7 @@ fn each_fault_ends_the_call(rt: HostRuntime) -> Result<(), Fail> {
     let alloc = rt.alloc();
     let script = TWO_RULES.as_bytes();
     // The source gives 7 bytes a call: 9 calls for the script, and one that finds its end.
-    assert_eq!(rt; script.len(), 61);
+    assert_eq!(rt; script.len(), 58);
     for failing in 0..10 {
         let outcome = call(alloc, &["run"], script, &[failing], &[], ROOM)?;
         assert_eq!(rt; outcome.status, Status::ReadFault, "take {failing}");
