@@ -69,3 +69,6 @@ pub fn answer_sets(
     };
     Ok(Found { ending, sets })
 }
+
+#[cfg(test)]
+mod tests;
