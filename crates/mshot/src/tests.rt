@@ -129,7 +129,7 @@ fn scripts_have_their_replies(rt: HostRuntime) -> Result<(), Fail> {
             "an unknown atom is false",
             "@add\na :- not b. c :- z.\n@end\n@ground base\n@solve all\n",
             done,
-            "added 2\ngrounded atoms=1 rules=1\nanswer: a\ncomplete 1\n",
+            "added 2\ngrounded atoms=2 rules=1\nanswer: a\ncomplete 1\n",
         ),
     ];
     for (name, script, status, replies) in rows {
