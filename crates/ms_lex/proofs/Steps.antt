@@ -26,7 +26,7 @@ skip_one k b bs at line h short false e =
     rw sum (h (suc at) line (omega arith))
 
 -- a skip within a line
-pub tokens_from-skip : (k : ℕ) (bs : List ℕ) (at line : ℕ) → k ≤ line_len bs → tokens_from k bs at line ≡ tokens_from 0 (drop k bs) (at + k) line
+tokens_from-skip : (k : ℕ) (bs : List ℕ) (at line : ℕ) → k ≤ line_len bs → tokens_from k bs at line ≡ tokens_from 0 (drop k bs) (at + k) line
 unfolding tokens_from
 tokens_from-skip zero bs at line h = rw add-zero refl
 tokens_from-skip (suc k) [] at line h = refl

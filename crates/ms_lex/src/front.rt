@@ -22,8 +22,9 @@ pub(crate) fn line_after(byte: u8, line: u64) -> u64
 }
 
 /// How many bytes stand before the first line end, or in the whole text where it has none.
-pub(crate) fn comment_len(text: &[u8]) -> usize
-    ensures { result ≡ length (take_while is_in_line text.now) }
+pub fn line_len(text: &[u8]) -> usize
+    ensures value { result ≡ length (take_while is_in_line text.now) }
+    ensures within { result ≤ length text.now }
 {
     text.iter().take_while(|byte| **byte != b'\n').count()
 }
@@ -99,8 +100,10 @@ fn bare_len(text: &[u8]) -> Option<usize>
     }
 }
 
-fn word_len(text: &[u8]) -> usize
-    ensures { result ≡ length (take_while is_word text.now) }
+/// How many letters, digits, underscores and apostrophes stand at the front.
+pub fn word_len(text: &[u8]) -> usize
+    ensures value { result ≡ length (take_while is_word text.now) }
+    ensures within { result ≤ length text.now }
 {
     text.iter().take_while(|byte| is_word(**byte)).count()
 }

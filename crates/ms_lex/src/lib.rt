@@ -8,7 +8,8 @@ ghost use Rattle.ms_lex.specs.Gives.{Gives, ComesBefore};
 
 mod front;
 
-use front::{comment_len, first_token, is_blank, line_after};
+use front::{first_token, is_blank, line_after};
+pub use front::{line_len, word_len};
 pub use ms_base::token::{Token, TokenKind, Tokens};
 use std::alloc::{AllocFailed, Global};
 
@@ -43,7 +44,7 @@ pub fn lex(alloc: Global, text: &[u8]) -> Result<Tokens, LexFault>
             line = line_after(*byte, line);
             at += 1;
         } else if *byte == b'%' {
-            at += 1 + comment_len(after);
+            at += 1 + line_len(after);
         } else {
             let Some((kind, len)) = first_token(&text[at..]) else {
                 return Err(LexFault::BadByte { at, line });

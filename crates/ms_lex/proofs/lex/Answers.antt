@@ -11,7 +11,7 @@ loop-at-preserved-then-is_blank c =
 pub loop-at-preserved-then-byte-eq37 : goal.loop-at-preserved-then-byte-eq37
 loop-at-preserved-then-byte-eq37 c =
     let rest : IsRest c.args.text.now c.loop-at.at _ = record { is = take_rest c.args.text.now c.loop-at.at; some = c.in-len1-up.len_at_least } in
-    HasRead-comment _ _ _ _ c.loop-at.invariant _ rest (sym c.is_blank.ensures ∙ c.if-is_blank.false) c.if-byte-eq37.true _ c.comment_len.ensures
+    HasRead-comment _ _ _ _ c.loop-at.invariant _ rest (sym c.is_blank.ensures ∙ c.if-is_blank.false) c.if-byte-eq37.true _ c.line_len.ensures.value
 
 pub returns-in_default-first_token-clause-exact : goal.returns-in_default-first_token-clause-exact
 returns-in_default-first_token-clause-exact c =
