@@ -45,17 +45,17 @@ fn call(
 
 #[test]
 fn scripts_have_their_replies(rt: HostRuntime) -> Result<(), Fail> {
-    let facts =
-        "@add\na1. a2. a3. a4. a5. a6. a7. a8. a9. a10. a11. a12. a13. a14. a15. a16. a17. a18. a19. a20. a21.\n@end\n@ground base\n@ground base\n@solve all\n";
     let done = Status::Done;
     let refused = Status::SomeRefused;
-    let rows = [
-        ("empty input", "", done, ""),
-        ("blanks and a comment", " \t\n\r\n% @add\n", done, ""),
-        ("two answers", TWO_RULES, done, TWO_REPLIES),
+    let facts =
+        b"@add\na1. a2. a3. a4. a5. a6. a7. a8. a9. a10. a11. a12. a13. a14. a15. a16. a17. a18. a19. a20. a21.\n@end\n@ground base\n@ground base\n@solve all\n";
+    let rows: [(&str, &[u8], Status, &str); 16] = [
+        ("empty input", b"", done, ""),
+        ("blanks and a comment", b" \t\n\r\n% @add\n", done, ""),
+        ("two answers", TWO_RULES.as_bytes(), done, TWO_REPLIES),
         (
             "support in a circle",
-            "@add\na :- b. b :- a.\n@end\n@ground base\n@solve all\n",
+            b"@add\na :- b. b :- a.\n@end\n@ground base\n@solve all\n",
             done,
             "added 2\ngrounded atoms=2 rules=2\nanswer:\ncomplete 1\n",
         ),
@@ -67,73 +67,73 @@ fn scripts_have_their_replies(rt: HostRuntime) -> Result<(), Fail> {
         ),
         (
             "a bad second line",
-            "@add\na.\nb c.\n@end\n@solve 3\n",
+            b"@add\na.\nb c.\n@end\n@solve 3\n",
             refused,
             "refused syntax 2\nrefused command\n",
         ),
         (
             "nothing grounded",
-            "@solve all",
+            b"@solve all",
             done,
             "answer:\ncomplete 1\n",
         ),
         (
             "no dot",
-            "@add\na :- b\n@end\n",
+            b"@add\na :- b\n@end\n",
             refused,
             "refused syntax 1\n",
         ),
         (
             "bytes that begin no token",
-            "@add\na.\n% x\nb. \u{1}\n@end\n",
+            b"@add\na.\n% \xff\nb. \xff\n@end\n\x00\n",
             refused,
-            "refused syntax 3\n",
+            "refused syntax 3\nrefused command\n",
         ),
         (
             "cut off inside a text",
-            "@add\na.\n",
+            b"@add\na.\n",
             refused,
             "refused unfinished\n",
         ),
         (
             "an add inside a text",
-            "@add\n@add\n@end\n",
+            b"@add\n@add\n@end\n",
             refused,
             "refused syntax 1\n",
         ),
         (
             "an end with blanks, and one alone",
-            "@add\na.\n \t@end \r\n@end\n",
+            b"@add\na.\r\n \t@end \r\n@end\n",
             refused,
             "added 1\nrefused command\n",
         ),
         (
             "no command",
-            "@grond base\nhello\n@solve 3\n\r@solve all\n",
+            b"@grond base\nhello\n@solve 3\n\r@solve all\n",
             refused,
             "refused command\nrefused command\nrefused command\nrefused command\n",
         ),
         (
             "blanks and comments in commands",
-            " @add % text\na. :- not a.\n@end\n@ground\tbase%\n@solve  all",
+            b" @add % text\na. :- not a.\n@end\n@ground\tbase%\n@solve  all",
             done,
             "added 2\ngrounded atoms=1 rules=2\nanswer: a\ncomplete 1\n",
         ),
         (
             "a refused text changes nothing",
-            "@add\na.\n@end\n@add\nb. c\n@end\n@ground base\n",
+            b"@add\na.\n@end\n@add\nb. c\n@end\n@ground base\n",
             refused,
             "added 1\nrefused syntax 1\ngrounded atoms=1 rules=1\n",
         ),
         (
             "an unknown atom is false",
-            "@add\na :- not b. c :- z.\n@end\n@ground base\n@solve all\n",
+            b"@add\na :- not b. c :- z.\n@end\n@ground base\n@solve all\n",
             done,
             "added 2\ngrounded atoms=2 rules=1\nanswer: a\ncomplete 1\n",
         ),
     ];
     for (name, script, status, replies) in rows {
-        let outcome = call(rt.alloc(), &["run"], script.as_bytes(), &[], &[], ROOM)?;
+        let outcome = call(rt.alloc(), &["run"], script, &[], &[], ROOM)?;
         assert_eq!(rt; outcome.status, status, "{name}");
         assert_eq!(rt; outcome.written.as_slice(), replies.as_bytes(), "{name}");
     }
