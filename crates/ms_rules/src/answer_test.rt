@@ -1,5 +1,5 @@
 // The test whether a set of atoms is an answer set.
-ghost use Rattle.std.specs.Prelude.{◌≡◌, ℕ, [], ◌↔◌, IsTrue, All, length};
+ghost use Rattle.std.specs.Prelude.{◌≡◌, [], ◌↔◌, IsTrue, All, length};
 ghost use Rattle.ms_base.specs.AnswerSets.{Allows, IsAnswerSet, IsAtomSet, IsRuleOver, set_of};
 ghost use Rattle.ms_rules.specs.Flags.{flag_at};
 
@@ -9,7 +9,7 @@ use crate::least_model::mark_least_model;
 use crate::scratch::Scratch;
 use ms_base::ground_rule::{GroundKind, GroundRule, Rules};
 
-/// Whether the set is no fault by the rule, if that is a constraint.
+/// Whether the rule allows the set. A constraint doesn't where its body holds.
 fn allows(rule: &GroundRule, in_set: &[bool]) -> bool
     ensures { IsTrue result ↔ Allows (flag_at in_set.now) rule.now.kind rule.now }
 {
@@ -27,7 +27,7 @@ fn allows_each(rules: &[GroundRule], in_set: &[bool]) -> bool
     rules.iter().all(|rule| allows(rule, in_set))
 }
 
-/// Whether the set of the flags is an answer set. It marks the least model of the reduct in `derived`.
+/// Whether the set of the flags is an answer set, for which it marks atoms in `derived`.
 fn is_stable(rules: &[GroundRule], in_set: &[bool], derived: &mut [bool]) -> bool
     requires over_base { All (IsRuleOver (length derived.old)) rules.now }
     requires same_base { length in_set.now ≡ length derived.old }
@@ -40,6 +40,8 @@ fn is_stable(rules: &[GroundRule], in_set: &[bool], derived: &mut [bool]) -> boo
 }
 
 /// Whether the set is an answer set of the rules. It takes no memory.
+///
+/// The atoms and the rules are over the base that `scratch` has room for.
 pub fn is_answer(join: &Rules, set: &AtomSet, scratch: &mut Scratch) -> bool
     requires over_base { All (IsRuleOver scratch.old) join.now.rules }
     requires set { IsAtomSet scratch.old set.now }

@@ -1,5 +1,5 @@
 // The least model of the reduct of the rules by a set, as a fixed point.
-ghost use Rattle.std.specs.Prelude.{◌≡◌, ◌<◌, All, IsTrue, length, MatchOption, MatchBool, false};
+ghost use Rattle.std.specs.Prelude.{◌≡◌, All, length, MatchOption, MatchBool};
 ghost use Rattle.ms_base.specs.AnswerSets.{IsReductModel, IsRuleOver, Keeps};
 ghost use Rattle.ms_rules.specs.LeastModel.{AsksFor, IsLeastModel, IsWithinModels, Progresses};
 ghost use Rattle.ms_rules.specs.Flags.{flag_at};
@@ -37,7 +37,7 @@ fn missing_head(rule: &GroundRule, in_set: &[bool], derived: &[bool]) -> Option<
     }
 }
 
-/// Marks what a rule asks for, for each rule in turn.
+/// Marks what each rule asks for in turn, up to the first that asks for an atom outside the set.
 fn pass(rules: &[GroundRule], in_set: &[bool], derived: &mut [bool]) -> Progress
     requires over_base { All (IsRuleOver (length derived.old)) rules.now }
     requires same_base { length in_set.now ≡ length derived.old }

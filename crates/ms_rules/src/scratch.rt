@@ -23,7 +23,7 @@ impl Model for Scratch {
 }
 
 impl Scratch {
-    /// Room for a base of so many atoms.
+    /// Room for a base of so many atoms. It fails only for want of memory.
     pub fn new(alloc: Global, atoms: u32) -> Result<Scratch, OutOfMemory>
         ensures { IfOk result (λ scratch. scratch ≡ atoms) }
     {

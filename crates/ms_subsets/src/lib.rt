@@ -1,7 +1,7 @@
 // The answer sets of ground rules, found by trying every set of atoms. It is the plain form of solving.
 #![tactic(auto)]
 
-ghost use Rattle.std.specs.Prelude.{[], ◌≡◌, ◌<◌, IfOk, OnOk, All};
+ghost use Rattle.std.specs.Prelude.{[], ◌≡◌, IfOk, OnOk, All};
 ghost use Rattle.ms_base.specs.AnswerSets.{IsAtomSet, IsRuleOver};
 ghost use Rattle.ms_base.specs.Listing.{AreAnswers, EndsAs};
 ghost use Rattle.ms_subsets.specs.Subsets.{KeepsAnswer};
@@ -42,6 +42,8 @@ fn keep_answer(
 }
 
 /// The answer sets of the rules over a base of so many atoms, or as many of them as were asked for.
+///
+/// It may try each set of atoms, and each atom doubles their number. It fails only for want of memory.
 pub fn answer_sets(
     alloc: Global,
     atoms: u32,
