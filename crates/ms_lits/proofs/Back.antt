@@ -1,12 +1,12 @@
 -- Going back to a level.
-use Rattle.std.proofs.Common.{ℕ, ◌≡◌, ◌<◌, ◌+◌, ◌≤◌, List, [], ◌∷◌, ◌++◌, length, get_or, take, refl, sym, ◌∙◌, ap, subst, arith}
+use Rattle.std.proofs.Common.{ℕ, ◌≡◌, ◌<◌, List, ◌++◌, length, get_or, take, sym, ◌∙◌, ap, subst, arith}
 use Rattle.std.proofs.lemmas.List.{get_or_default, length-take-le}
 use Rattle.std.proofs.Math.Seq.{take-append_seam}
 use Rattle.ms_lits.specs.declared.trail.Entry.{Entry}
 use Rattle.ms_lits.specs.Assignment.{Assignment, up_to}
 use Rattle.ms_lits.specs.Storage.{AreLevels, assignment_in}
 use Rattle.ms_lits.proofs.Entries.{some_entry}
-use Rattle.ms_lits.proofs.Leveled.{levels_cut, cut_up_to, all_up_to}
+use Rattle.ms_lits.proofs.Leveled.{cut_up_to, all_up_to}
 
 back_made : List Entry → ℕ → ℕ → Assignment
 back_made entries level room = record { entries = entries; level = level; room = room }
@@ -30,8 +30,8 @@ back_kept a initial cut ends shorter room room_left level view s inside same cut
     let P : Assignment → Type 0 = λ x. assignment_in cut shorter room_left ≡ record { entries = up_to level x.entries; level = level; room = x.room } in
     subst P view
     (ap (λ xs. back_made xs (length shorter) room_left) (cuts ∙ sym (cut_up_to initial ends level some_entry s inside))
-      ∙ ap (λ n. back_made (up_to level initial) n room_left) (ap length shortens ∙ length-take-le level ends (omega arith))
-      ∙ ap (λ n. back_made (up_to level initial) level n) same)
+    ∙ ap (λ n. back_made (up_to level initial) n room_left) (ap length shortens ∙ length-take-le level ends (omega arith))
+    ∙ ap (λ n. back_made (up_to level initial) level n) same)
 
 pub front_kept : (a : Assignment) (initial cut rest : List Entry) (ends : List ℕ) (room : ℕ) → assignment_in initial ends room ≡ a → initial ≡ cut ++ rest → cut ≡ take (length cut) a.entries
 front_kept a initial cut rest ends room view splits =

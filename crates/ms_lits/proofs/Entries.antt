@@ -1,5 +1,5 @@
 -- The entry of a variable, found by its place.
-use Rattle.std.proofs.Common.{ℕ, ◌≡◌, ◌<◌, ◌≤◌, ◌⊎◌, inl, inr, zero, suc, List, [], ◌∷◌, ◌++◌, Option, Some, None, Bool, true, false, length, get_or, nat_eq, refl, sym, ◌∙◌, ap, cond, arith, eq-eqb, option_map}
+use Rattle.std.proofs.Common.{ℕ, ◌≡◌, ◌<◌, inl, inr, zero, suc, List, [], ◌∷◌, Some, None, false, length, get_or, nat_eq, refl, sym, ◌∙◌, arith, eq-eqb}
 use Rattle.std.proofs.lemmas.Bool.{ne_eqb, cases_eq, cond-true, cond-false}
 use Rattle.ms_lits.specs.declared.trail.Entry.{Entry}
 use Rattle.ms_lits.specs.Assignment.{entry_of}
@@ -33,5 +33,7 @@ pub none_at : (es : List Entry) (var i : ℕ) (d : Entry) → entry_of es var �
 none_at [] var i d absent below same = absurd (omega arith)
 none_at (e ∷ es) var zero d absent below same = let h = entry_here e es var same in cc
 none_at (e ∷ es) var (suc i) d absent below same =
-    elim (cases_eq e.lit.var var) [ inl here ↦ (let h = entry_here e es var here in cc)
-      | inr other ↦ none_at es var i d (sym (entry_behind e es var other) ∙ absent) (omega arith) same ]
+    elim (cases_eq e.lit.var var) [
+      | inl here ↦ (let h = entry_here e es var here in cc)
+      | inr other ↦ none_at es var i d (sym (entry_behind e es var other) ∙ absent) (omega arith) same
+    ]

@@ -1,6 +1,5 @@
 -- The levels of the entries.
-use Rattle.std.proofs.Common.{ℕ, ◌≡◌, ◌<◌, ◌+◌, ◌≤◌, ◌⊎◌, inl, inr, zero, suc, List, [], ◌∷◌, ◌++◌, Bool, true, false, length, get_or, take, refl, sym, ◌∙◌, ap, subst, cond, arith, nat_le}
-use Rattle.std.specs.List.{filter}
+use Rattle.std.proofs.Common.{ℕ, ◌≡◌, ◌<◌, ◌+◌, ◌≤◌, inl, inr, zero, suc, List, [], ◌∷◌, ◌++◌, length, get_or, take, refl, ◌∙◌, ap, arith, nat_le}
 use Rattle.std.proofs.lemmas.Bool.{cases_lt, cond-true, cond-false, le-leb, lt-leb}
 use Rattle.std.proofs.lemmas.List.{length-append, length-take-le, get_or-take, take_all}
 use Rattle.std.proofs.Math.ListN.{get_or-append}
@@ -29,22 +28,28 @@ levels_more entries pushed ends e s is pushes =
     record {
       within = λ level lt. let w = s.within level lt in omega arith;
       front = λ level i d lt before. let w = s.within level lt in let o = old i d (omega arith) in omega (arith, o, s.front level i d lt before);
-      back = λ level i d lt behind inside. elim (cases_lt i (length entries)) [ inl before ↦ (let o = old i d before in omega (arith, o, s.back level i d lt behind before))
-        | inr h ↦ (let o = last i d (omega arith) in omega (arith, o)) ];
-      present = λ i d inside. elim (cases_lt i (length entries)) [ inl before ↦ (let o = old i d before in omega (arith, o, s.present i d before))
-        | inr h ↦ (let o = last i d (omega arith) in omega (arith, o)) ];
+      back = λ level i d lt behind inside. elim (cases_lt i (length entries)) [
+        | inl before ↦ (let o = old i d before in omega (arith, o, s.back level i d lt behind before))
+        | inr h ↦ (let o = last i d (omega arith) in omega (arith, o))
+      ];
+      present = λ i d inside. elim (cases_lt i (length entries)) [
+        | inl before ↦ (let o = old i d before in omega (arith, o, s.present i d before))
+        | inr h ↦ (let o = last i d (omega arith) in omega (arith, o))
+      ];
     }
 
 -- the ends rise
 ends_rise : (entries : List Entry) (ends : List ℕ) (d : Entry) (level depth : ℕ) → AreLevels entries ends → level < depth → depth < length ends → get_or ends level 0 ≤ get_or ends depth 0
 ends_rise entries ends d level depth s below inside =
-    elim (cases_lt (get_or ends depth 0) (get_or ends level 0)) [ inl less ↦ (
-        let i = get_or ends depth 0 in
-        let w = s.within level (omega arith) in
-        let f = s.front level (get_or ends depth 0) d (omega arith) less in
-        let b = s.back depth (get_or ends depth 0) d inside (omega arith) (omega arith) in
-        absurd (omega (arith, f, b)))
-      | inr h ↦ h ]
+    elim (cases_lt (get_or ends depth 0) (get_or ends level 0)) [
+      | inl less ↦ (
+          let i = get_or ends depth 0 in
+          let w = s.within level (omega arith) in
+          let f = s.front level (get_or ends depth 0) d (omega arith) less in
+          let b = s.back depth (get_or ends depth 0) d inside (omega arith) (omega arith) in
+          absurd (omega (arith, f, b)))
+      | inr h ↦ h
+    ]
 
 -- back to a level
 pub levels_cut : (entries cut : List Entry) (ends shorter : List ℕ) (depth : ℕ) (d : Entry) → AreLevels entries ends → depth < length ends → cut ≡ take (get_or ends depth 0) entries → shorter ≡ take depth ends → AreLevels cut shorter
@@ -73,7 +78,10 @@ all_up_to entries ends depth d s is = front_up_to entries (length entries) depth
 pub levels_rise : (entries : List Entry) (ends : List ℕ) (i k : ℕ) (d : Entry) → AreLevels entries ends → i ≤ k → k < length entries → (get_or entries i d).level ≤ (get_or entries k d).level
 levels_rise entries ends i k d s le lt =
     let level = (get_or entries k d).level in
-    elim (cases_lt (get_or entries k d).level (length ends)) [ inl inside ↦ elim (cases_lt k (get_or ends (get_or entries k d).level 0)) [
-        inl before ↦ s.front (get_or entries k d).level i d inside (omega arith)
-      | inr behind ↦ (let b = s.back (get_or entries k d).level k d inside behind lt in absurd (omega arith)) ]
-    | inr h ↦ (let p = s.present i d (omega arith) in omega (arith, p, h)) ]
+    elim (cases_lt (get_or entries k d).level (length ends)) [
+      | inl inside ↦ elim (cases_lt k (get_or ends (get_or entries k d).level 0)) [
+        | inl before ↦ s.front (get_or entries k d).level i d inside (omega arith)
+        | inr behind ↦ (let b = s.back (get_or entries k d).level k d inside behind lt in absurd (omega arith))
+      ]
+      | inr h ↦ (let p = s.present i d (omega arith) in omega (arith, p, h))
+    ]

@@ -1,5 +1,5 @@
 -- The marks of the variables, and how many are set.
-use Rattle.std.proofs.Common.{ℕ, ◌≡◌, ◌<◌, ◌+◌, ◌≤◌, zero, suc, List, [], ◌∷◌, Option, Some, None, Bool, true, false, length, get_or, set, refl, sym, ◌∙◌, ap, cond, arith}
+use Rattle.std.proofs.Common.{ℕ, ◌≡◌, ◌<◌, ◌+◌, suc, List, [], ◌∷◌, Some, None, Bool, true, false, length, get_or, set, refl, ◌∙◌, cond, arith}
 use Rattle.std.specs.List.{count_by}
 use Rattle.std.proofs.lemmas.Bool.{cond-true, cond-false}
 use Rattle.std.proofs.lemmas.List.{length-set}

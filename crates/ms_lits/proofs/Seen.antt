@@ -1,13 +1,12 @@
 -- The stored trail, as contracts see it.
-use Rattle.std.proofs.Common.{ℕ, ◌≡◌, ◌<◌, ◌+◌, ◌≤◌, ◌^◌, List, [], ◌∷◌, ◌++◌, Option, Some, None, Bool, true, false, length, get_or, set, refl, sym, ◌∙◌, ap, subst, arith}
+use Rattle.std.proofs.Common.{ℕ, ◌≡◌, ◌<◌, List, [], ◌∷◌, ◌++◌, Some, None, length, get_or, set, sym, ◌∙◌, ap, subst, arith}
 use Rattle.std.specs.Prelude.{IsSome}
 use Rattle.std.proofs.lemmas.List.{get_or_default}
 use Rattle.ms_lits.specs.declared.trail.Entry.{Entry}
 use Rattle.ms_lits.specs.declared.trail.Mark.{Mark}
 use Rattle.ms_lits.specs.declared.trail.Mark.TheVariants.{Free}
 use Rattle.ms_lits.specs.Assignment.{Assignment, IsAssignment, entry_of, value_in}
-use Rattle.ms_lits.specs.Storage.{AreStored, IsFound, IsTrail, assignment_in, truth_of, mark_for}
-use Rattle.ms_lits.proofs.Entries.{some_entry}
+use Rattle.ms_lits.specs.Storage.{AreStored, IsTrail, assignment_in, truth_of, mark_for}
 use Rattle.ms_lits.proofs.Stored.{assigned_found, entry_read, value_marked, room_left, entries_few, stored_more}
 use Rattle.ms_lits.proofs.Leveled.{levels_rise}
 
@@ -33,7 +32,7 @@ entry_seen a room entries places marks ends var place e view s below assigned re
     let P : Assignment → Type 0 = λ x. IsSome (entry_of x.entries var) in
     ap (λ (x : Assignment). entry_of x.entries var) (sym view)
     ∙ entry_read room entries places marks var place e s (omega arith) (subst P (sym view) assigned) read
-      (place_seen a room entries places marks ends var place view s below assigned read) is
+    (place_seen a room entries places marks ends var place view s below assigned read) is
 
 pub room_seen : (a : Assignment) (room : ℕ) (entries : List Entry) (places : List ℕ) (marks : List Mark) (ends : List ℕ) (var : ℕ) → assignment_in entries ends room ≡ a → AreStored room entries places marks → var < a.room → entry_of a.entries var ≡ None → length entries < room
 room_seen a room entries places marks ends var view s below absent =

@@ -1,17 +1,15 @@
 -- What the stored places and marks tell of the entries, and how they change.
-use Rattle.std.proofs.Common.{ℕ, ◌≡◌, ◌<◌, ◌+◌, ◌≤◌, ◌⊎◌, inl, inr, zero, suc, List, [], ◌∷◌, ◌++◌, Option, Some, None, Bool, true, false, length, get_or, set, refl, sym, ◌∙◌, ap, subst, cond, arith, option_map}
-use Rattle.std.specs.Prelude.{IsSome, max}
-use Rattle.std.specs.List.{count_by}
+use Rattle.std.proofs.Common.{ℕ, ◌≡◌, ◌<◌, ◌+◌, ◌≤◌, inl, inr, List, [], ◌∷◌, ◌++◌, Some, None, true, false, length, get_or, set, sym, ◌∙◌, ap, subst, arith, option_map}
+use Rattle.std.specs.Prelude.{IsSome}
 use Rattle.std.proofs.lemmas.Bool.{cases_eq, cases_lt, cases_Bool, both_ways, false_from_ne_true, true_from_ne_false}
 use Rattle.std.proofs.lemmas.List.Sums.{count_by-le-length}
 use Rattle.std.proofs.lemmas.List.{length-set, length-append, get_or-set_same, get_or-set_other, get_or_default}
 use Rattle.std.proofs.Math.ListN.{get_or-append}
 use Rattle.std.proofs.Math.Seq.{get_or-append_seam}
-use Rattle.ms_lits.specs.declared.lit.Lit.{Lit}
 use Rattle.ms_lits.specs.declared.trail.Entry.{Entry}
 use Rattle.ms_lits.specs.declared.trail.Mark.{Mark}
-use Rattle.ms_lits.specs.declared.trail.Mark.TheVariants.{Free, Negative, Positive}
-use Rattle.ms_lits.specs.Assignment.{entry_of, value_in, entry_made}
+use Rattle.ms_lits.specs.declared.trail.Mark.TheVariants.{Free}
+use Rattle.ms_lits.specs.Assignment.{entry_of, value_in}
 use Rattle.ms_lits.specs.Storage.{AreStored, IsFound, IsNoted, mark_for, truth_of, is_set}
 use Rattle.ms_lits.proofs.Entries.{some_entry, entry_first, entry_none, none_at}
 use Rattle.ms_lits.proofs.Marks.{truth_marked, set_marked, free_untrue, count_up, count_down, count_below, count_none}
@@ -27,9 +25,9 @@ pub entry_unmarked : (room : ℕ) (entries : List Entry) (places : List ℕ) (ma
 entry_unmarked room entries places marks var s free =
     entry_none entries var some_entry
     (λ i lt here.
-      let n = s.noted i some_entry lt in
-      both_ways (is_set (get_or marks var Free)) free
-      (ap (λ v. is_set (get_or marks v Free)) (sym here) ∙ ap is_set n.marked ∙ set_marked (get_or entries i some_entry).lit.truth))
+    let n = s.noted i some_entry lt in
+    both_ways (is_set (get_or marks var Free)) free
+    (ap (λ v. is_set (get_or marks v Free)) (sym here) ∙ ap is_set n.marked ∙ set_marked (get_or entries i some_entry).lit.truth))
 
 -- an assigned variable is found in its place
 pub assigned_found : (room : ℕ) (entries : List Entry) (places : List ℕ) (marks : List Mark) (var : ℕ) → AreStored room entries places marks → var < room → IsSome (entry_of entries var) → IsFound entries places var
@@ -51,22 +49,24 @@ pub unassigned_free : (room : ℕ) (entries : List Entry) (places : List ℕ) (m
 unassigned_free room entries places marks var s below absent =
     false_from_ne_true (is_set (get_or marks var Free))
     (λ marked. let f = s.found var below marked in
-      none_at entries var (get_or places var 0) some_entry absent f.within (f.same some_entry))
+    none_at entries var (get_or places var 0) some_entry absent f.within (f.same some_entry))
 
 -- the mark tells the value
 pub value_marked : (room : ℕ) (entries : List Entry) (places : List ℕ) (marks : List Mark) (var : ℕ) → AreStored room entries places marks → var < room → truth_of (get_or marks var Free) ≡ value_in entries var
 value_marked room entries places marks var s below =
-    elim (cases_Bool (is_set (get_or marks var Free))) [ inl marked ↦ (
-        let f = s.found var below marked in
-        let p = get_or places var 0 in
-        let e = get_or entries p some_entry in
-        let n = s.noted p some_entry f.within in
-        ap (λ v. truth_of (get_or marks v Free)) (sym (f.same some_entry))
-        ∙ ap truth_of n.marked
-        ∙ truth_marked e.lit.truth
-        ∙ sym (ap (option_map (λ (x : Entry). x.lit.truth)) (entry_stored room entries places marks var some_entry s f)))
+    elim (cases_Bool (is_set (get_or marks var Free))) [
+      | inl marked ↦ (
+          let f = s.found var below marked in
+          let p = get_or places var 0 in
+          let e = get_or entries p some_entry in
+          let n = s.noted p some_entry f.within in
+          ap (λ v. truth_of (get_or marks v Free)) (sym (f.same some_entry))
+          ∙ ap truth_of n.marked
+          ∙ truth_marked e.lit.truth
+          ∙ sym (ap (option_map (λ (x : Entry). x.lit.truth)) (entry_stored room entries places marks var some_entry s f)))
       | inr free ↦ free_untrue (get_or marks var Free) free
-        ∙ sym (ap (option_map (λ (x : Entry). x.lit.truth)) (entry_unmarked room entries places marks var s free)) ]
+          ∙ sym (ap (option_map (λ (x : Entry). x.lit.truth)) (entry_unmarked room entries places marks var s free))
+    ]
 
 -- there is room for the entry of an unassigned variable
 pub room_left : (room : ℕ) (entries : List Entry) (places : List ℕ) (marks : List Mark) (var : ℕ) → AreStored room entries places marks → var < room → entry_of entries var ≡ None → length entries < room
@@ -98,32 +98,36 @@ stored_more room entries places marks e mark pushed s below absent is pushes =
     record {
       places_len = omega (arith, length-set places var (length entries));
       marks_len = length-set marks var mark ∙ s.marks_len;
-      noted = λ i d lt. elim (cases_lt i (length entries)) [ inl before ↦ (
-          let n = s.noted i d before in
-          let v = (get_or entries i d).lit.var in
-          let other : v ≡ var → ⊥ = λ same. none_at entries var i d absent before same in
-          let N : Entry → Type 0 = λ x. IsNoted room (set places var (length entries)) (set marks var mark) i x.lit in
-          subst N (sym (old i d before)) (record {
-            within = n.within;
-            placed = get_or-set_other places var v (length entries) 0 other ∙ n.placed;
-            marked = get_or-set_other marks var v mark Free other ∙ n.marked;
-          }))
+      noted = λ i d lt. elim (cases_lt i (length entries)) [
+        | inl before ↦ (
+            let n = s.noted i d before in
+            let v = (get_or entries i d).lit.var in
+            let other : v ≡ var → ⊥ = λ same. none_at entries var i d absent before same in
+            let N : Entry → Type 0 = λ x. IsNoted room (set places var (length entries)) (set marks var mark) i x.lit in
+            subst N (sym (old i d before)) (record {
+              within = n.within;
+              placed = get_or-set_other places var v (length entries) 0 other ∙ n.placed;
+              marked = get_or-set_other marks var v mark Free other ∙ n.marked;
+            }))
         | inr behind ↦ (
-          let at : i ≡ length entries = omega arith in
-          let N : Entry → Type 0 = λ x. IsNoted room (set places var (length entries)) (set marks var mark) i x.lit in
-          subst N (sym (ap (λ k. get_or pushed k d) at ∙ last d)) (record {
-            within = below;
-            placed = get_or-set_same places var (length entries) 0 in_places ∙ sym at;
-            marked = get_or-set_same marks var mark Free in_marks ∙ is;
-          })) ];
-      found = λ v lt marked. elim (cases_eq v var) [ inl same ↦ (
-          let at : get_or (set places var (length entries)) v 0 ≡ length entries = ap (λ k. get_or (set places var (length entries)) k 0) same ∙ get_or-set_same places var (length entries) 0 in_places in
-          record { within = omega (arith, at, lenp); same = λ d. ap (λ k. (get_or pushed k d).lit.var) at ∙ ap (λ x. x.lit.var) (last d) ∙ sym same })
+            let at : i ≡ length entries = omega arith in
+            let N : Entry → Type 0 = λ x. IsNoted room (set places var (length entries)) (set marks var mark) i x.lit in
+            subst N (sym (ap (λ k. get_or pushed k d) at ∙ last d)) (record {
+              within = below;
+              placed = get_or-set_same places var (length entries) 0 in_places ∙ sym at;
+              marked = get_or-set_same marks var mark Free in_marks ∙ is;
+            }))
+      ];
+      found = λ v lt marked. elim (cases_eq v var) [
+        | inl same ↦ (
+            let at : get_or (set places var (length entries)) v 0 ≡ length entries = ap (λ k. get_or (set places var (length entries)) k 0) same ∙ get_or-set_same places var (length entries) 0 in_places in
+            record { within = omega (arith, at, lenp); same = λ d. ap (λ k. (get_or pushed k d).lit.var) at ∙ ap (λ x. x.lit.var) (last d) ∙ sym same })
         | inr other ↦ (
-          let was : is_set (get_or marks v Free) ≡ true = ap is_set (sym (get_or-set_other marks var v mark Free other)) ∙ marked in
-          let f = s.found v lt was in
-          let at = get_or-set_other places var v (length entries) 0 other in
-          record { within = omega (arith, at, lenp, f.within); same = λ d. ap (λ k. (get_or pushed k d).lit.var) at ∙ ap (λ x. x.lit.var) (old (get_or places v 0) d f.within) ∙ f.same d }) ];
+            let was : is_set (get_or marks v Free) ≡ true = ap is_set (sym (get_or-set_other marks var v mark Free other)) ∙ marked in
+            let f = s.found v lt was in
+            let at = get_or-set_other places var v (length entries) 0 other in
+            record { within = omega (arith, at, lenp, f.within); same = λ d. ap (λ k. (get_or pushed k d).lit.var) at ∙ ap (λ x. x.lit.var) (old (get_or places v 0) d f.within) ∙ f.same d })
+      ];
       count = count_up marks var mark in_marks free (ap is_set is ∙ set_marked e.lit.truth) ∙ ap (λ n. n + 1) s.count ∙ sym lenp;
     }
 
@@ -142,24 +146,29 @@ stored_less room whole entries places marks e s splits =
       places_len = s.places_len;
       marks_len = length-set marks var Free ∙ s.marks_len;
       noted = λ i d lt.
-        let P : Entry → Type 0 = λ x. IsNoted room places marks i x.lit in
-        let m : IsNoted room places marks i (get_or entries i d).lit = subst P (old i d lt) (s.noted i d (omega arith)) in
-        let v = (get_or entries i d).lit.var in
-        let other : v ≡ var → ⊥ = λ same. (let at : i ≡ length entries = sym m.placed ∙ ap (λ k. get_or places k 0) same ∙ n.placed in absurd (omega arith)) in
-        record { within = m.within; placed = m.placed; marked = get_or-set_other marks var v Free Free other ∙ m.marked };
-      found = λ v lt marked. elim (cases_eq v var) [ inl same ↦ absurd (both_ways (is_set (get_or (set marks var Free) v Free)) (ap (λ k. is_set (get_or (set marks var Free) k Free)) same ∙ ap is_set (get_or-set_same marks var Free Free in_marks)) marked)
+          let P : Entry → Type 0 = λ x. IsNoted room places marks i x.lit in
+          let m : IsNoted room places marks i (get_or entries i d).lit = subst P (old i d lt) (s.noted i d (omega arith)) in
+          let v = (get_or entries i d).lit.var in
+          let other : v ≡ var → ⊥ = λ same. (let at : i ≡ length entries = sym m.placed ∙ ap (λ k. get_or places k 0) same ∙ n.placed in absurd (omega arith)) in
+          record { within = m.within; placed = m.placed; marked = get_or-set_other marks var v Free Free other ∙ m.marked };
+      found = λ v lt marked. elim (cases_eq v var) [
+        | inl same ↦ absurd (both_ways (is_set (get_or (set marks var Free) v Free)) (ap (λ k. is_set (get_or (set marks var Free) k Free)) same ∙ ap is_set (get_or-set_same marks var Free Free in_marks)) marked)
         | inr other ↦ (
-          let was : is_set (get_or marks v Free) ≡ true = ap is_set (sym (get_or-set_other marks var v Free Free other)) ∙ marked in
-          let f = s.found v lt was in
-          let p = get_or places v 0 in
-          let inside : get_or places v 0 < length entries = elim (cases_lt (get_or places v 0) (length entries)) [ inl h ↦ h | inr h ↦ (
-            let at : get_or places v 0 ≡ length entries = omega (arith, f.within, lenw) in
-            absurd (other (sym (f.same e) ∙ ap (λ k. (get_or whole k e).lit.var) at ∙ ap (λ x. x.lit.var) (last e)))) ] in
-          record { within = inside; same = λ d. ap (λ x. x.lit.var) (sym (old (get_or places v 0) d inside)) ∙ f.same d }) ];
+            let was : is_set (get_or marks v Free) ≡ true = ap is_set (sym (get_or-set_other marks var v Free Free other)) ∙ marked in
+            let f = s.found v lt was in
+            let p = get_or places v 0 in
+            let inside : get_or places v 0 < length entries = elim (cases_lt (get_or places v 0) (length entries)) [
+              | inl h ↦ h
+              | inr h ↦ (
+                  let at : get_or places v 0 ≡ length entries = omega (arith, f.within, lenw) in
+                  absurd (other (sym (f.same e) ∙ ap (λ k. (get_or whole k e).lit.var) at ∙ ap (λ x. x.lit.var) (last e))))
+            ] in
+            record { within = inside; same = λ d. ap (λ x. x.lit.var) (sym (old (get_or places v 0) d inside)) ∙ f.same d })
+      ];
       count =
-        let down = count_down marks var in_marks (ap is_set n.marked ∙ set_marked e.lit.truth) in
-        let count = s.count in
-        omega (arith, down, count, lenw);
+          let down = count_down marks var in_marks (ap is_set n.marked ∙ set_marked e.lit.truth) in
+          let count = s.count in
+          omega (arith, down, count, lenw);
     }
 
 -- without entries no variable is marked

@@ -1,5 +1,5 @@
 -- What contracts see of a trail: a partial assignment by levels.
-use Rattle.std.specs.Prelude.{ℕ, ◌≡◌, ◌<◌, ◌≤◌, ◌^◌, ◌⊎◌, ◌==◌, nat_le, Bool, false, cond, List, [], ◌∷◌, Option, Some, None, option_map, IfSome, All, Contains, length, IsTrue}
+use Rattle.std.specs.Prelude.{ℕ, ◌≡◌, ◌<◌, ◌≤◌, ◌^◌, ◌⊎◌, ◌==◌, nat_le, Bool, cond, List, [], ◌∷◌, Option, Some, None, option_map, All, Contains, length}
 use Rattle.std.specs.List.{filter, slice_index_or}
 use Rattle.ms_lits.specs.declared.lit.Lit.{Lit}
 use Rattle.ms_lits.specs.declared.trail.Entry.{Entry}

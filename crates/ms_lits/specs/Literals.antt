@@ -1,6 +1,6 @@
 -- Literals, nogoods and their unit closure. A set of literals is a test.
 -- Source: Gebser, Kaufmann and Schaub, "Conflict-driven answer set solving: from theory to practice" (2012).
-use Rattle.std.specs.Prelude.{ℕ, ◌≡◌, ◌≢◌, ◌⊎◌, Bool, true, false, not, IsTrue, List, All, Contains}
+use Rattle.std.specs.Prelude.{◌≡◌, ◌⊎◌, Bool, false, not, IsTrue, List, All, Contains}
 use Rattle.ms_lits.specs.declared.lit.Lit.{Lit}
 
 -- the literal that holds where this one doesn't

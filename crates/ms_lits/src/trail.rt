@@ -29,7 +29,11 @@ impl Mark {
     fn new(truth: bool) -> Mark
         ensures { result ≡ mark_for truth }
     {
-        if truth { Mark::Positive } else { Mark::Negative }
+        if truth {
+            Mark::Positive
+        } else {
+            Mark::Negative
+        }
     }
 
     fn truth(self) -> Option<bool>

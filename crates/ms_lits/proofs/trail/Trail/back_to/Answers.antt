@@ -1,8 +1,7 @@
-use Rattle.std.proofs.Common.{ℕ, ◌≡◌, ◌<◌, ◌≤◌, ◌∷◌, ◌++◌, [], List, length, get_or, take, refl, sym, ◌∙◌, ap, subst, arith, append_assoc}
+use Rattle.std.proofs.Common.{◌≡◌, ◌<◌, ◌∷◌, ◌++◌, [], length, take, ◌∙◌, ap, arith, append_assoc}
 use Rattle.std.specs.Prelude.{vec_capacity}
 use Rattle.std.proofs.lemmas.Grind.{common_steps}
 use Rattle.std.proofs.lemmas.List.{length-append, length-take-le}
-use Rattle.ms_lits.specs.declared.trail.Entry.{Entry}
 use Rattle.ms_lits.proofs.Entries.{some_entry}
 use Rattle.ms_lits.proofs.Stored.{stored_less}
 use Rattle.ms_lits.proofs.Leveled.{levels_cut}

@@ -1,4 +1,4 @@
-use Rattle.std.proofs.Common.{◌≡◌, ◌≤◌, length, vec_len}
+use Rattle.std.proofs.Common.{◌≡◌, vec_len}
 use Rattle.std.specs.Prelude.{vec_capacity}
 use Rattle.ms_lits.specs.Storage.{AreStored}
 use Rattle.ms_lits.proofs.trail.Trail.clear.Given as goal

@@ -1,13 +1,11 @@
-use Rattle.std.proofs.Common.{ℕ, ◌≡◌, ◌<◌, ◌≤◌, ◌^◌, Some, None, Bool, false, inl, inr, Ok, Err, length, get_or, option_map, refl, sym, ◌∙◌, ap, subst, arith, Fits, w32, List, []}
+use Rattle.std.proofs.Common.{ℕ, ◌≡◌, ◌<◌, ◌≤◌, false, inl, inr, length, get_or, refl, sym, ◌∙◌, ap, subst, arith, List, []}
 use Rattle.std.proofs.lemmas.Bool.{cases_lt}
 use Rattle.std.proofs.lemmas.Grind.{common_steps}
 use Rattle.ms_lits.specs.declared.trail.Entry.{Entry}
 use Rattle.ms_lits.specs.declared.trail.Mark.TheVariants.{Free}
-use Rattle.ms_lits.specs.Assignment.{Assignment, entry_made}
+use Rattle.ms_lits.specs.Assignment.{Assignment}
 use Rattle.ms_lits.specs.Storage.{AreLevels, is_set}
-use Rattle.ms_lits.proofs.Seen.{value_seen, place_seen, entry_seen, room_seen, more_seen, assignment_seen}
 use Rattle.ms_lits.proofs.Stored.{stored_empty, unmarked_empty}
-use Rattle.ms_lits.proofs.Leveled.{levels_more}
 use Rattle.ms_lits.proofs.trail.Trail.grow.Goals as goal
 
 pub invariant_of-self-2 : goal.invariant_of-self-2
@@ -26,8 +24,9 @@ invariant_of-self-2 c =
     let old : (i : ℕ) → i < c.self.inside.room → is_set (get_or c.self.inside.marks.items i Free) ≡ false = λ i lt. unmarked_empty c.self.inside.room c.self.inside.entries.items c.self.inside.places.items c.self.inside.marks.items i s none lt in
     let by = c.in_ok-resize-2.ensures.by_index in
     let free : (i : ℕ) → i < length c.resize-2.new.self.items → is_set (get_or c.resize-2.new.self.items i Free) ≡ false = λ i lt. elim (cases_lt i c.self.inside.room) [
-        inl before ↦ (ap is_set (by.0 i Free (omega arith) (let m = s.marks_len in grind (arith, common_steps))) ∙ old i before)
-      | inr behind ↦ ap is_set (by.1 i Free refl (let m = s.marks_len in grind (arith, common_steps)) (omega arith)) ] in
+      | inl before ↦ (ap is_set (by.0 i Free (omega arith) (let m = s.marks_len in grind (arith, common_steps))) ∙ old i before)
+      | inr behind ↦ ap is_set (by.1 i Free refl (let m = s.marks_len in grind (arith, common_steps)) (omega arith))
+    ] in
     record {
       stored = stored_empty c.args.vars c.reserve.new.self.items c.resize.new.self.items c.resize-2.new.self.items (kept ∙ none) places marks free;
       levels = subst E (sym kept) (subst N (sym ends) c.self.invariant.levels);

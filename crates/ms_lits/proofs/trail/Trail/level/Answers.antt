@@ -1,12 +1,5 @@
-use Rattle.std.proofs.Common.{ℕ, ◌≡◌, ◌<◌, ◌≤◌, ◌^◌, Some, None, Ok, Err, length, get_or, option_map, refl, sym, ◌∙◌, ap, subst, arith, Fits, w32, List, []}
+use Rattle.std.proofs.Common.{arith}
 use Rattle.std.proofs.lemmas.Grind.{common_steps}
-use Rattle.ms_lits.specs.declared.trail.Entry.{Entry}
-use Rattle.ms_lits.specs.declared.trail.Mark.TheVariants.{Free}
-use Rattle.ms_lits.specs.Assignment.{Assignment, entry_made}
-use Rattle.ms_lits.specs.Storage.{AreLevels, is_set}
-use Rattle.ms_lits.proofs.Seen.{value_seen, place_seen, entry_seen, room_seen, more_seen, assignment_seen}
-use Rattle.ms_lits.proofs.Stored.{stored_empty}
-use Rattle.ms_lits.proofs.Leveled.{levels_more}
 use Rattle.ms_lits.proofs.trail.Trail.level.Goals as goal
 
 pub overflow_cast-result : goal.overflow_cast-result
