@@ -1,2 +1,4 @@
 pub mod Tables
 pub mod Equal
+pub mod Sizes
+pub mod Orders

@@ -1,5 +1,5 @@
 -- The terms that a table names by number.
-use Rattle.std.specs.Prelude.{◌≡◌, ℕ, ◌+◌, ◌-◌, ◌^◌, ◌<◌, ◌≤◌, ◌⊎◌, min, pos, List, [], ◌∷◌, ◌++◌, length, slice_index_or, ⊤, ℤ, Option, Some, None}
+use Rattle.std.specs.Prelude.{◌≡◌, ℕ, ◌+◌, ◌-◌, ◌^◌, ◌<◌, ◌≤◌, ◌⊎◌, min, max, pos, List, [], ◌∷◌, ◌++◌, length, slice_index_or, ⊤, ℤ, Option, Some, None}
 use Rattle.ms_tree.specs.Tree.{Tree, number, text, function, Trees, no_tree, tree}
 use Rattle.ms_tree.specs.Size.{tree_size}
 use Rattle.ms_term.specs.declared.node.Node.{Node}
@@ -94,3 +94,8 @@ abbrev pub arguments_in : Tree → Trees
 arguments_in (number n) = no_tree
 arguments_in (text s) = no_tree
 arguments_in (function f ts) = ts
+
+-- the least number that all of these are below
+abbrev pub bound_of : List ℕ → ℕ
+bound_of [] = 0
+bound_of (i ∷ is) = max (i + 1) (bound_of is)

@@ -5,6 +5,7 @@ mod node;
 mod op;
 mod term_id;
 mod terms;
+mod text;
 
 pub use ms_base::memory::OutOfMemory;
 pub use op::{Op, arith};

@@ -1,13 +1,17 @@
-ghost use Rattle.std.specs.Prelude.{◌≡◌, ◌+◌, ◌<◌, [], length, option_copied, IfOk, OnErr};
+ghost use Rattle.std.specs.Prelude.{◌≡◌, ◌+◌, ◌<◌, ◌++◌, [], length, option_copied, IfOk, OnOk, OnErr};
 ghost use Rattle.ms_tree.specs.Tree.{number, text, function};
+ghost use Rattle.ms_tree.specs.Order.{compare_trees, compare_all};
+ghost use Rattle.ms_tree.specs.Text.{tree_text, after_text};
 ghost use Rattle.ms_tree.specs.Size.{tree_size, sizes};
 ghost use Rattle.ms_term.specs.Terms.{trees, tree_of, term_at, terms_at, held, AllBelow, Fits, Describes, Names, number_in, text_in, name_in, arguments_in};
 
 use crate::node::{Arguments, Node};
 use crate::term_id::TermId;
+use crate::text::{closing, end_without_arguments, print_number, print_string};
 use indexmap::IndexSet;
 use ms_base::memory::OutOfMemory;
 use std::alloc::Global;
+use std::cmp::Ordering;
 use std::marker::Model;
 
 /// Ground terms, each under one name. Contracts see the terms by their names as `trees`.
@@ -129,6 +133,152 @@ impl Terms {
             Node::Function { arguments, .. } => arguments.as_slice(),
             _ => &[],
         }
+    }
+
+    /// The order of two terms.
+    #[cycle(compare)]
+    pub fn compare(&self, a: TermId, b: TermId) -> Ordering
+        requires a_within { a < length (trees self.now) }
+        requires b_within { b < length (trees self.now) }
+        ensures { result ≡ compare_trees (term_at (trees self.now) a) (term_at (trees self.now) b) }
+    {
+        if a == b {
+            return Ordering::Equal;
+        }
+        match self.node(a) {
+            Node::Number(n) => self.compare_number(*n, b),
+            Node::Text(bytes) => self.compare_text(bytes, b),
+            Node::Function {
+                name, arguments, ..
+            } => self.compare_function(name, arguments.as_slice(), b),
+        }
+    }
+
+    // The order of an integer and a term.
+    fn compare_number(&self, n: i64, b: TermId) -> Ordering
+        requires { b < length (trees self.now) }
+        ensures { result ≡ compare_trees (number n) (term_at (trees self.now) b) }
+    {
+        match self.node(b) {
+            Node::Number(other) => n.cmp(other),
+            _ => Ordering::Less,
+        }
+    }
+
+    // The order of a string and a term.
+    fn compare_text(&self, bytes: &[u8], b: TermId) -> Ordering
+        requires { b < length (trees self.now) }
+        ensures { result ≡ compare_trees (text bytes.now) (term_at (trees self.now) b) }
+    {
+        match self.node(b) {
+            Node::Number(_) => Ordering::Greater,
+            Node::Text(other) => bytes.cmp(other.as_slice()),
+            Node::Function { .. } => Ordering::Less,
+        }
+    }
+
+    // The order of a function and a term.
+    #[cycle(compare)]
+    fn compare_function(&self, name: &[u8], arguments: &[TermId], b: TermId) -> Ordering
+        requires within { AllBelow (length (trees self.now)) arguments.now }
+        requires b_within { b < length (trees self.now) }
+        ensures { result ≡ compare_trees (function name.now (terms_at (trees self.now) arguments.now)) (term_at (trees self.now) b) }
+    {
+        let Node::Function {
+            name: other_name,
+            arguments: others,
+            ..
+        } = self.node(b)
+        else {
+            return Ordering::Greater;
+        };
+        match arguments.len().cmp(&others.len()) {
+            Ordering::Equal => {}
+            differ => return differ,
+        }
+        match name.cmp(other_name.as_slice()) {
+            Ordering::Equal => self.compare_each(arguments, others.as_slice()),
+            differ => differ,
+        }
+    }
+
+    // The order of two lists of arguments: the first that differ decide.
+    #[cycle(compare)]
+    fn compare_each(&self, arguments: &[TermId], others: &[TermId]) -> Ordering
+        requires within { AllBelow (length (trees self.now)) arguments.now }
+        requires others_within { AllBelow (length (trees self.now)) others.now }
+        ensures { result ≡ compare_all (terms_at (trees self.now) arguments.now) (terms_at (trees self.now) others.now) }
+    {
+        let mut rest = arguments;
+        let mut others_rest = others;
+        while let [first, after @ ..] = rest {
+            let [other, others_after @ ..] = others_rest else {
+                return Ordering::Greater;
+            };
+            match self.compare(*first, *other) {
+                Ordering::Equal => {}
+                differ => return differ,
+            }
+            rest = after;
+            others_rest = others_after;
+        }
+        if others_rest.is_empty() {
+            Ordering::Equal
+        } else {
+            Ordering::Less
+        }
+    }
+
+    /// Appends the text of a term.
+    #[cycle(print)]
+    pub fn print(&self, t: TermId, into: &mut Vec<u8>) -> Result<(), OutOfMemory>
+        requires { t < length (trees self.now) }
+        ensures { OnOk result (into.new.items ≡ into.old.items ++ tree_text (term_at (trees self.now) t)) }
+    {
+        match self.node(t) {
+            Node::Number(n) => print_number(*n, into),
+            Node::Text(bytes) => print_string(bytes, into),
+            Node::Function {
+                name, arguments, ..
+            } => self.print_function(name, arguments.as_slice(), into),
+        }
+    }
+
+    #[cycle(print)]
+    fn print_function(
+        &self,
+        name: &[u8],
+        arguments: &[TermId],
+        into: &mut Vec<u8>,
+    ) -> Result<(), OutOfMemory>
+        requires { AllBelow (length (trees self.now)) arguments.now }
+        ensures { OnOk result (into.new.items ≡ into.old.items ++ tree_text (function name.now (terms_at (trees self.now) arguments.now))) }
+    {
+        into.extend_from_slice(name)?;
+        let [first, after @ ..] = arguments else {
+            into.extend_from_slice(end_without_arguments(name))?;
+            return Ok(());
+        };
+        into.push(b'(')?;
+        self.print(*first, into)?;
+        self.print_after(after, into)?;
+        into.extend_from_slice(closing(name, after))?;
+        Ok(())
+    }
+
+    // Each argument after a `,`.
+    #[cycle(print)]
+    fn print_after(&self, arguments: &[TermId], into: &mut Vec<u8>) -> Result<(), OutOfMemory>
+        requires { AllBelow (length (trees self.now)) arguments.now }
+        ensures { OnOk result (into.new.items ≡ into.old.items ++ after_text (terms_at (trees self.now) arguments.now)) }
+    {
+        let mut rest = arguments;
+        while let [first, after @ ..] = rest {
+            into.push(b',')?;
+            self.print(*first, into)?;
+            rest = after;
+        }
+        Ok(())
     }
 
     // The size of a function with these arguments.

@@ -13,6 +13,18 @@ abbrev pub escaped : List ℕ → List ℕ
 escaped [] = []
 escaped (b ∷ bs) = escaped_byte b ++ escaped bs
 
+-- what a function without arguments has after its name: the empty tuple has parentheses
+abbrev pub no_arguments_text : List ℕ → List ℕ
+no_arguments_text [] = 40 ∷ 41 ∷ []
+no_arguments_text (c ∷ f) = []
+
+-- what a function with these arguments after the first one ends with: a tuple of one has a `,` there
+abbrev pub closing_text : List ℕ → Trees → List ℕ
+closing_text [] no_tree = 44 ∷ 41 ∷ []
+closing_text [] (tree t ts) = 41 ∷ []
+closing_text (c ∷ f) no_tree = 41 ∷ []
+closing_text (c ∷ f) (tree t ts) = 41 ∷ []
+
 abbrev mutual
   -- an integer is decimal with a leading `-` where negative, and a string stands in double quotes
   pub tree_text : Tree → List ℕ
@@ -20,14 +32,10 @@ abbrev mutual
   tree_text (text s) = 34 ∷ (escaped s ++ 34 ∷ [])
   tree_text (function f ts) = f ++ arguments_text f ts
 
-  -- the arguments in parentheses, separated by `,`. A constant has no parentheses, the empty tuple has
-  -- them, and a tuple of one argument has a `,` after it.
+  -- the arguments in parentheses, separated by `,`
   pub arguments_text : List ℕ → Trees → List ℕ
-  arguments_text [] no_tree = 40 ∷ 41 ∷ []
-  arguments_text [] (tree t no_tree) = 40 ∷ (tree_text t ++ 44 ∷ 41 ∷ [])
-  arguments_text [] (tree t (tree u us)) = 40 ∷ (tree_text t ++ (after_text (tree u us) ++ 41 ∷ []))
-  arguments_text (c ∷ f) no_tree = []
-  arguments_text (c ∷ f) (tree t ts) = 40 ∷ (tree_text t ++ (after_text ts ++ 41 ∷ []))
+  arguments_text f no_tree = no_arguments_text f
+  arguments_text f (tree t ts) = 40 ∷ (tree_text t ++ (after_text ts ++ closing_text f ts))
 
   -- each argument after a `,`
   pub after_text : Trees → List ℕ
