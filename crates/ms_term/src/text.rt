@@ -65,9 +65,17 @@ pub(crate) fn end_without_arguments(name: &[u8]) -> &'static [u8]
 pub(crate) fn closing(name: &[u8], after: &[TermId]) -> &'static [u8]
     ensures { (ts : List Tree) → result.now ≡ closing_text name.now (terms_at ts after.now) }
 {
-    if name.is_empty() && after.is_empty() {
-        b",)"
-    } else {
-        b")"
+    match name {
+        [] => closing_of_tuple(after),
+        _ => b")",
+    }
+}
+
+fn closing_of_tuple(after: &[TermId]) -> &'static [u8]
+    ensures { (ts : List Tree) → result.now ≡ closing_text [] (terms_at ts after.now) }
+{
+    match after {
+        [] => b",)",
+        _ => b")",
     }
 }
