@@ -16,7 +16,6 @@ use Rattle.ms_term.specs.Terms.{term_at, terms_at, tree_of, held, AllBelow, Argu
 abbrev pub node_eq : Node → Node → Bool
 node_eq a b = (eq-value).it a b
 
-
 numbers-eq : (m n : ℤ) → node_eq (Number m) (Number n) ≡ int_eq m n
 numbers-eq m n = refl
 

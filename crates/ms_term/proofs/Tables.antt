@@ -70,15 +70,15 @@ stands-push : (nodes : List Node) (ts : List Tree) (node : Node) → IsTable nod
     → Describes (ts ++ tree_of ts node ∷ []) i n
 stands-push nodes ts node table fits i n h is =
     elim (cases_lt i (length nodes)) [
-      inl before ↦
-        let long : i < length ts = omega (arith, table.count) in
-        Describes-more ts (tree_of ts node ∷ []) i n long (table.stands i n before (is ∙ get_or_append_left nodes (node ∷ []) n i before))
+      | inl before ↦
+          let long : i < length ts = omega (arith, table.count) in
+          Describes-more ts (tree_of ts node ∷ []) i n long (table.stands i n before (is ∙ get_or_append_left nodes (node ∷ []) n i before))
       | inr after ↦
-        let at_end : i ≡ length nodes = omega (arith, length-append nodes (node ∷ [])) in
-        let here : n ≡ node = is ∙ (ap (λ k. get_or (nodes ++ node ∷ []) k n) at_end ∙ get_or-last nodes node n) in
-        let D : ℕ → Type 0 = λ k. Describes (ts ++ tree_of ts node ∷ []) k n in
-        let E : Node → Type 0 = λ m. Describes (ts ++ tree_of ts node ∷ []) (length ts) m in
-        subst D (table.count ∙ sym at_end) (subst E (sym here) (Describes-last ts node fits))
+          let at_end : i ≡ length nodes = omega (arith, length-append nodes (node ∷ [])) in
+          let here : n ≡ node = is ∙ (ap (λ k. get_or (nodes ++ node ∷ []) k n) at_end ∙ get_or-last nodes node n) in
+          let D : ℕ → Type 0 = λ k. Describes (ts ++ tree_of ts node ∷ []) k n in
+          let E : Node → Type 0 = λ m. Describes (ts ++ tree_of ts node ∷ []) (length ts) m in
+          subst D (table.count ∙ sym at_end) (subst E (sym here) (Describes-last ts node fits))
     ]
 
 different-push : (ts : List Tree) (t : Tree) → AllDifferent ts → ((i : ℕ) → i < length ts → term_at ts i ≡ t → ⊥)
@@ -87,16 +87,16 @@ different-push ts t old fresh i j hi hj e =
     let li : i < length ts + 1 = omega (arith, length-append ts (t ∷ [])) in
     let lj : j < length ts + 1 = omega (arith, length-append ts (t ∷ [])) in
     elim (cases_lt i (length ts)) [
-      inl bi ↦ elim (cases_lt j (length ts)) [
-        inl bj ↦ old i j bi bj (sym (term_at-more ts (t ∷ []) i bi) ∙ (e ∙ term_at-more ts (t ∷ []) j bj))
+      | inl bi ↦ elim (cases_lt j (length ts)) [
+        | inl bj ↦ old i j bi bj (sym (term_at-more ts (t ∷ []) i bi) ∙ (e ∙ term_at-more ts (t ∷ []) j bj))
         | inr aj ↦
-          let ej : j ≡ length ts = omega arith in
-          absurd (fresh i bi (sym (term_at-more ts (t ∷ []) i bi) ∙ (e ∙ (ap (λ k. term_at (ts ++ t ∷ []) k) ej ∙ term_at-last ts t))))
+            let ej : j ≡ length ts = omega arith in
+            absurd (fresh i bi (sym (term_at-more ts (t ∷ []) i bi) ∙ (e ∙ (ap (λ k. term_at (ts ++ t ∷ []) k) ej ∙ term_at-last ts t))))
       ]
       | inr ai ↦ elim (cases_lt j (length ts)) [
-        inl bj ↦
-          let ei : i ≡ length ts = omega arith in
-          absurd (fresh j bj (sym (term_at-more ts (t ∷ []) j bj) ∙ (sym e ∙ (ap (λ k. term_at (ts ++ t ∷ []) k) ei ∙ term_at-last ts t))))
+        | inl bj ↦
+            let ei : i ≡ length ts = omega arith in
+            absurd (fresh j bj (sym (term_at-more ts (t ∷ []) j bj) ∙ (sym e ∙ (ap (λ k. term_at (ts ++ t ∷ []) k) ei ∙ term_at-last ts t))))
         | inr aj ↦ omega arith
       ]
     ]
@@ -133,7 +133,7 @@ fresh-from_none nodes ts node table fits none i h e =
     let same : tree_of ts node ≡ tree_of ts other = sym e ∙ d.is in
     let size : node_size node ≡ node_size other = fits.size ∙ (ap (λ t. held (tree_size t)) same ∙ sym d.size) in
     let equal = eq-from_same ts table.different node other fits.below
-        (ArgumentsBelow-le i (length ts) other (omega arith) d.below) size same in
+    (ArgumentsBelow-le i (length ts) other (omega arith) d.below) size same in
     let apart = not_any (node_eq node) nodes i node none within in
     cc (equal, apart)
 
@@ -170,6 +170,18 @@ IsInserted-from old new node e table fits =
     let P : List Node → Type 0 = λ ns. IsInserted old ns node in
     subst P (sym e) (by_test (list_any (node_eq node) old) old node refl table fits)
 
+longer-from : (old new : List Tree) (t : Tree) → (new ≡ old) ⊎ (new ≡ old ++ t ∷ []) → length old ≤ length new
+longer-from old new t grows = elim grows [
+  | inl same ↦ omega (arith, ap length same)
+  | inr more ↦ omega (arith, ap length more, length-append old (t ∷ []))
+]
+
+kept-from : (old new : List Tree) (t : Tree) → (new ≡ old) ⊎ (new ≡ old ++ t ∷ []) → (i : ℕ) → i < length old → term_at new i ≡ term_at old i
+kept-from old new t grows i h = elim grows [
+  | inl same ↦ ap (λ ts. term_at ts i) same
+  | inr more ↦ ap (λ ts. term_at ts i) more ∙ term_at-more old (t ∷ []) i h
+]
+
 -- the place of a node that equals the inserted one names its term
 pub Names-from : (old new : List Node) (node k : Node) (i : ℕ) → IsInserted old new node → i < length new
     → slice_get new i ≡ Some k → node_eq node k ≡ true → Names (trees old) (trees new) (tree_of (trees old) node) i
@@ -179,5 +191,7 @@ Names-from old new node k i inserted within stored equal =
       within = omega (arith, inserted.table.count);
       names = d.is ∙ (sym (same-from_eq (trees new) node k equal) ∙ inserted.same);
       grows = inserted.grows;
+      longer = longer-from (trees old) (trees new) (tree_of (trees old) node) inserted.grows;
+      kept = kept-from (trees old) (trees new) (tree_of (trees old) node) inserted.grows;
       different = inserted.table.different;
     }

@@ -71,6 +71,8 @@ pub record Names (old new : List Tree) (t : Tree) (i : ℕ) : Type 0 where
   pub within : i < length new
   pub names : term_at new i ≡ t
   pub grows : (new ≡ old) ⊎ (new ≡ old ++ t ∷ [])
+  pub longer : length old ≤ length new
+  pub kept : (i : ℕ) → i < length old → term_at new i ≡ term_at old i
   pub different : AllDifferent new
 
 -- the part of a term that a look-up gives, where the term is of that kind

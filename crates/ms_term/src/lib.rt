@@ -5,6 +5,8 @@ mod node;
 mod op;
 mod term_id;
 mod terms;
+#[cfg(test)]
+mod tests;
 mod text;
 
 pub use ms_base::memory::OutOfMemory;

@@ -1,9 +1,9 @@
-ghost use Rattle.std.specs.Prelude.{◌≡◌, ◌+◌, ◌<◌, ◌++◌, [], length, option_copied, IfOk, OnOk, OnErr};
+ghost use Rattle.std.specs.Prelude.{◌≡◌, ◌+◌, ◌<◌, ◌++◌, [], length, option_copied, IsTrue, ◌↔◌, IfOk, OnOk, OnErr};
 ghost use Rattle.ms_tree.specs.Tree.{number, text, function};
 ghost use Rattle.ms_tree.specs.Order.{compare_trees, compare_all};
 ghost use Rattle.ms_tree.specs.Text.{tree_text, after_text};
 ghost use Rattle.ms_tree.specs.Size.{tree_size, sizes};
-ghost use Rattle.ms_term.specs.Terms.{trees, tree_of, term_at, terms_at, held, AllBelow, Fits, Describes, Names, number_in, text_in, name_in, arguments_in};
+ghost use Rattle.ms_term.specs.Terms.{trees, tree_of, term_at, terms_at, held, AllBelow, AllDifferent, Fits, Describes, Names, number_in, text_in, name_in, arguments_in};
 
 use crate::node::{Arguments, Node};
 use crate::term_id::TermId;
@@ -42,6 +42,20 @@ impl Terms {
             nodes: IndexSet::new(alloc),
             alloc,
         }
+    }
+
+    /// The number of terms. Their names are the numbers below it.
+    pub fn len(&self) -> usize
+        ensures len { result ≡ length (trees self.now) }
+        ensures different { AllDifferent (trees self.now) }
+    {
+        self.nodes.len()
+    }
+
+    pub fn is_empty(&self) -> bool
+        ensures { IsTrue result ↔ (length (trees self.now) ≡ 0) }
+    {
+        self.len() == 0
     }
 
     /// The name of an integer.
@@ -149,7 +163,9 @@ impl Terms {
             Node::Number(n) => self.compare_number(*n, b),
             Node::Text(bytes) => self.compare_text(bytes, b),
             Node::Function {
-                name, arguments, ..
+                name,
+                arguments,
+                ..
             } => self.compare_function(name, arguments.as_slice(), b),
         }
     }
@@ -239,7 +255,9 @@ impl Terms {
             Node::Number(n) => print_number(*n, into),
             Node::Text(bytes) => print_string(bytes, into),
             Node::Function {
-                name, arguments, ..
+                name,
+                arguments,
+                ..
             } => self.print_function(name, arguments.as_slice(), into),
         }
     }

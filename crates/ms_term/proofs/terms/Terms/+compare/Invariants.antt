@@ -18,7 +18,7 @@ invariant-compare_each-loop-rest l = record {
       ≡ compare_all (terms_at (trees l.self) l.arguments) (terms_at (trees l.self) l.others);
   within : AllBelow (length (trees l.self)) l.rest;
   others_within : AllBelow (length (trees l.self)) l.others_rest;
-  bound : bound_of l.rest ≤ bound_of l.arguments
+  bound : bound_of l.rest ≤ bound_of l.arguments;
 }
 
 abbrev pub decreases-compare_each-loop-rest : goal.decreases-compare_each-loop-rest

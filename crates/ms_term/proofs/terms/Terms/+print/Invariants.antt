@@ -17,7 +17,7 @@ invariant-print_after-loop-rest l = record {
   same : l.into.items ++ after_text (terms_at (trees l.self) l.rest)
       ≡ l.fn.into.items ++ after_text (terms_at (trees l.self) l.fn.arguments);
   within : AllBelow (length (trees l.self)) l.rest;
-  bound : bound_of l.rest ≤ bound_of l.fn.arguments
+  bound : bound_of l.rest ≤ bound_of l.fn.arguments;
 }
 
 abbrev pub decreases-print_after-loop-rest : goal.decreases-print_after-loop-rest

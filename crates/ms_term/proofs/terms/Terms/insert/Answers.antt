@@ -17,6 +17,6 @@ returns-clause-ok c =
     let inserted = IsInserted-from _ _ c.args.node c.in_ok-place.ensures.keys c.self.invariant fits in
     let stored = c.in_ok-place.ensures.stored in
     let N : List Node → Type 0 =
-        λ ns. Names (trees ns) (trees c.insert_full.new.self.keys) (tree_of (trees ns) c.args.node) c.in_ok-place.place in
+    λ ns. Names (trees ns) (trees c.insert_full.new.self.keys) (tree_of (trees ns) c.args.node) c.in_ok-place.place in
     subst N c.self.view_is
     (Names-from _ _ c.args.node stored.0 c.in_ok-place.place inserted c.in_ok-place.ensures.within stored.1 stored.2)

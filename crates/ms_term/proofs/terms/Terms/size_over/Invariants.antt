@@ -7,7 +7,7 @@ abbrev pub invariant-loop-rest : goal.invariant-loop-rest
 invariant-loop-rest l = record {
   same : held (l.size + sizes (terms_at (trees l.self) l.rest)) ≡ held (1 + sizes (terms_at (trees l.self) l.fn.arguments));
   below : AllBelow (length (trees l.self)) l.rest;
-  in_range : l.size < 2 ^ 64
+  in_range : l.size < 2 ^ 64;
 }
 
 abbrev pub decreases-loop-rest : goal.decreases-loop-rest
