@@ -1,17 +1,16 @@
 -- Nodes are equal exactly where their terms are.
-use Rattle.std.proofs.Common.{◌≡◌, ℕ, ◌+◌, ◌<◌, Bool, true, false, ◌&&◌, List, [], ◌∷◌, ◌++◌, length, refl, sym, ℤ, Vec, Global, ap, ◌∙◌, subst, arith, pos, nat_eq, eqb}
+use Rattle.std.proofs.Common.{◌≡◌, ℕ, Bool, true, false, ◌&&◌, List, [], ◌∷◌, length, refl, ℤ, Vec, Global, ap, nat_eq}
 use Rattle.std.specs.Cmp.Lexicographic.{pointwise}
 use Rattle.std.specs.Ordering.{int_eq}
 use Rattle.std.proofs.lemmas.Slice.Eq.{bytes_eq-Decides}
 use Rattle.std.proofs.lemmas.Bool.{and_parts}
 use Rattle.std.proofs.lemmas.Bool.Decides.{Decides-int_eq, Decides-eqb}
 use Rattle.smallvec.specs.declared.small_vec.SmallVec.{SmallVec}
-use Rattle.ms_tree.specs.Tree.{Tree, number, text, function, Trees, no_tree, tree}
-use Rattle.ms_tree.specs.Size.{tree_size}
+use Rattle.ms_tree.specs.Tree.{Tree, number, text}
 use Rattle.ms_term.specs.declared.node.Node.{Node}
 use Rattle.ms_term.specs.declared.node.Node.TheVariants.{Number, Text, Function}
 use Rattle.ms_term.specs.contracts.node.NodePartialEq.TheImpl.{eq-value}
-use Rattle.ms_term.specs.Terms.{term_at, terms_at, tree_of, held, AllBelow, ArgumentsBelow, node_size, Fits, AllDifferent}
+use Rattle.ms_term.specs.Terms.{term_at, terms_at, tree_of, AllBelow, ArgumentsBelow, node_size, AllDifferent}
 
 abbrev pub node_eq : Node → Node → Bool
 node_eq a b = (eq-value).it a b

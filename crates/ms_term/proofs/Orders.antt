@@ -1,9 +1,8 @@
 -- Laws of the order of terms, and of names in it.
-use Rattle.std.proofs.Common.{◌≡◌, ℕ, ℤ, pos, negsuc, ◌+◌, ◌<◌, ◌≤◌, max, List, [], ◌∷◌, length, refl, sym, ap, ◌∙◌, subst, arith, Bool, true, false, nat_eq, Vec, Global}
+use Rattle.std.proofs.Common.{◌≡◌, ℕ, ℤ, ◌<◌, ◌≤◌, List, [], ◌∷◌, length, refl, sym, ap, ◌∙◌, subst, arith, Bool, true, false, nat_eq, Vec, Global}
 use Rattle.std.specs.declared.cmp.Ordering.{Ordering}
 use Rattle.std.specs.declared.cmp.Ordering.TheVariants.{Less, Equal, Greater}
 use Rattle.std.specs.Ordering.{nat_cmp, int_cmp, ordering_then}
-use Rattle.std.specs.Cmp.{nat_cmp_total, int_cmp_total}
 use Rattle.std.specs.Cmp.Lexicographic.{slice_cmp}
 use Rattle.ms_tree.specs.Tree.{Tree, number, text, function, Trees, no_tree, tree, tree_count}
 use Rattle.ms_tree.specs.Order.{compare_trees, compare_all}
@@ -11,7 +10,7 @@ use Rattle.std.proofs.lemmas.Bool.Decides.{Decides-eqb}
 use Rattle.smallvec.specs.declared.small_vec.SmallVec.{SmallVec}
 use Rattle.ms_term.specs.declared.node.Node.{Node}
 use Rattle.ms_term.specs.declared.node.Node.TheVariants.{Function}
-use Rattle.ms_term.specs.Terms.{term_at, terms_at, tree_of, AllBelow, ArgumentsBelow, bound_of}
+use Rattle.ms_term.specs.Terms.{terms_at, tree_of, AllBelow, ArgumentsBelow, bound_of}
 
 nat_cmp-same : (n : ℕ) → nat_cmp n n ≡ Equal
 nat_cmp-same n = grind arith

@@ -1,13 +1,13 @@
 -- A table stays one when a node is added to it.
 use Rattle.ms_term.proofs.Equal.{node_eq, same-from_eq, eq-from_same}
 use Rattle.std.proofs.Common.{slice_get, Some}
-use Rattle.std.proofs.Common.{◌≡◌, ℕ, ◌+◌, ◌-◌, ◌<◌, ◌≤◌, Bool, true, false, cond, ◌||◌, not, ◌⊎◌, inl, inr, List, [], ◌∷◌, ◌++◌, length, refl, sym, ap, ◌∙◌, subst, arith, length-append, append_assoc, pos, get_or, zero, suc, if◌then◌else◌}
-use Rattle.std.proofs.lemmas.List.{get_or_append_left, get_or-append_right, get_or_default}
+use Rattle.std.proofs.Common.{◌≡◌, ℕ, ◌+◌, ◌<◌, ◌≤◌, Bool, true, false, ◌||◌, ◌⊎◌, inl, inr, List, [], ◌∷◌, ◌++◌, length, refl, sym, ap, ◌∙◌, subst, arith, length-append, pos, get_or, zero, suc, if◌then◌else◌}
+use Rattle.std.proofs.lemmas.List.{get_or_append_left, get_or_default}
 use Rattle.std.proofs.lemmas.Bool.{cases_lt}
 use Rattle.std.proofs.lemmas.Option.{get_or_from_slice_get}
-use Rattle.std.specs.List.{list_any, position_or_len}
+use Rattle.std.specs.List.{list_any}
 use Rattle.indexmap.specs.IndexSet.{insert_key}
-use Rattle.ms_tree.specs.Tree.{Tree, number, text, function, Trees, no_tree, tree}
+use Rattle.ms_tree.specs.Tree.{Tree, number, function, tree}
 use Rattle.ms_tree.specs.Size.{tree_size}
 use Rattle.ms_term.specs.declared.node.Node.{Node}
 use Rattle.ms_term.specs.declared.node.Node.TheVariants.{Number, Text, Function}

@@ -1,5 +1,5 @@
 -- What the text of a function with arguments ends with.
-use Rattle.std.proofs.Common.{◌≡◌, ℕ, ◌<◌, ◌≤◌, List, [], ◌∷◌, length, refl, arith}
+use Rattle.std.proofs.Common.{◌≡◌, ℕ, ◌<◌, List, [], ◌∷◌, length, refl, arith}
 use Rattle.ms_tree.specs.Tree.{Tree, Trees, no_tree, tree}
 use Rattle.ms_tree.specs.Text.{closing_text}
 use Rattle.ms_term.specs.Terms.{terms_at}

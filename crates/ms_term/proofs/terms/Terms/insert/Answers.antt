@@ -1,4 +1,4 @@
-use Rattle.std.proofs.Common.{◌≡◌, sym, subst, List}
+use Rattle.std.proofs.Common.{sym, subst, List}
 use Rattle.ms_term.specs.declared.node.Node.{Node}
 use Rattle.ms_term.specs.Terms.{trees, tree_of, Fits, Names}
 use Rattle.ms_term.proofs.Tables.{IsInserted-from, Names-from}
