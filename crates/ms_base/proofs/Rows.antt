@@ -1,10 +1,9 @@
 -- The definitions at worked examples.
-use Rattle.std.specs.Prelude.{◌≡◌, refl, [], ◌∷◌, ◌++◌, Ok, Err, Some, None, codes, map}
-use Rattle.ms_base.specs.declared.token.TokenKind.TheVariants.{Name, Not, If, Comma, Dot}
+use Rattle.std.specs.Prelude.{◌≡◌, refl, [], ◌∷◌, ◌++◌, Ok, Err, codes}
+use Rattle.ms_base.specs.declared.token.TokenKind.TheVariants.{Not, If}
 use Rattle.ms_base.specs.declared.command.Command.TheVariants.{Add, Ground, Solve}
 use Rattle.ms_base.specs.declared.command.ScriptItem.TheVariants.{Command as is_command, BadCommand, Unfinished}
 use Rattle.ms_base.specs.Tokens.{tokens_of, tokens_from}
-use Rattle.ms_base.specs.Grammar.{pieces_of}
 use Rattle.ms_base.specs.Script.{items_of, items_from, lines_of, meaning_of}
 
 two_tokens : tokens_of (codes "not% x" ++ 10 ∷ codes " :-") ≡ Ok (record { kind = Not; start = 0; end = 3; line = 1 } ∷ record { kind = If; start = 8; end = 10; line = 2 } ∷ [])

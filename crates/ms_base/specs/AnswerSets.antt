@@ -1,7 +1,7 @@
 -- The answer sets of ground rules. A set of atoms is a test of their numbers.
 -- Source: Gelfond and Lifschitz, "The stable model semantics for logic programming" (1988); a constraint
 -- as in Niemela, "Logic programs with stable model semantics as a constraint programming paradigm" (1999).
-use Rattle.std.specs.Prelude.{ℕ, ◌≡◌, ◌<◌, ◌==◌, Bool, true, false, not, ◌&&◌, IsTrue, List, Option, All, Some, None, IfSome, IsSomeAnd, ⊤}
+use Rattle.std.specs.Prelude.{ℕ, ◌≡◌, ◌<◌, ◌==◌, Bool, false, not, ◌&&◌, IsTrue, List, Option, All, None, IfSome, IsSomeAnd, ⊤}
 use Rattle.std.specs.List.{list_all, list_any}
 use Rattle.std.specs.List.Sorted.{IsStrictlyIncreasing}
 use Rattle.ms_base.specs.declared.ground_rule.GroundRule.{GroundRule}

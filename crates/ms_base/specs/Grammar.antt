@@ -1,6 +1,6 @@
 -- The grammar of rules of plain names, as the words that spell a rule, and the statements of a text.
 -- Source: normal rules and constraints of the ASP-Core-2 input language format.
-use Rattle.std.specs.Prelude.{ℕ, ◌≡◌, Bool, true, false, List, [], ◌∷◌, ◌++◌, map, Option, Some, None, Result, Ok, Err, slice_range, ◌⊎◌}
+use Rattle.std.specs.Prelude.{ℕ, ◌≡◌, Bool, true, false, List, [], ◌∷◌, ◌++◌, map, Option, Some, None, Ok, Err, slice_range, ◌⊎◌}
 use Rattle.std.specs.List.{filter_map}
 use Rattle.ms_base.specs.declared.token.Token.{Token}
 use Rattle.ms_base.specs.declared.token.TokenKind.{TokenKind}

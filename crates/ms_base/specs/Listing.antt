@@ -1,5 +1,5 @@
 -- The listing of answer sets.
-use Rattle.std.specs.Prelude.{ℕ, ◌≡◌, ◌≢◌, ◌↔◌, ◌<◌, IsTrue, List, [], Some, All, AllPairs, Contains, length, slice_get}
+use Rattle.std.specs.Prelude.{ℕ, ◌≡◌, ◌≢◌, ◌↔◌, ◌<◌, List, Some, All, AllPairs, Contains, length, slice_get}
 use Rattle.std.specs.List.{AllZip}
 use Rattle.std.specs.List.Sorted.{IsStrictlySortedBy, IsSorted, IsPermutation}
 use Rattle.std.specs.Ordering.{nat_cmp}

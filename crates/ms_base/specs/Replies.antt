@@ -1,6 +1,6 @@
 -- The texts of the replies.
-use Rattle.std.specs.Prelude.{ℕ, Bool, true, false, ◌||◌, List, [], ◌∷◌, ◌++◌, codes}
-use Rattle.std.specs.List.{flat_map, list_any}
+use Rattle.std.specs.Prelude.{ℕ, Bool, true, false, List, [], ◌∷◌, ◌++◌, codes}
+use Rattle.std.specs.List.{flat_map}
 use Rattle.std.specs.Fmt.{decimal}
 use Rattle.ms_base.specs.declared.reply.Reply.{Reply}
 use Rattle.ms_base.specs.declared.reply.Reply.TheVariants.{Added, Grounded, Solved, Refused}

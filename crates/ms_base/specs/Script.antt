@@ -1,12 +1,10 @@
 -- The commands and bad lines of a script.
-use Rattle.std.specs.Prelude.{ℕ, ◌+◌, ◌==◌, nat_eq, Bool, true, false, ◌||◌, ◌&&◌, List, [], ◌∷◌, ◌++◌, map, length, drop, take, take_while, Option, Some, None, Result, Ok, Err, codes}
+use Rattle.std.specs.Prelude.{ℕ, ◌==◌, nat_eq, Bool, true, false, ◌||◌, ◌&&◌, List, [], ◌∷◌, ◌++◌, map, length, drop, take_while, Option, Some, None, Ok, Err, codes}
 use Rattle.std.specs.List.{list_all, starts_with}
 use Rattle.std.specs.Cmp.Lexicographic.{pointwise}
-use Rattle.ms_base.specs.declared.command.Command.{Command}
 use Rattle.ms_base.specs.declared.command.Command.TheVariants.{Add, Ground, Solve}
 use Rattle.ms_base.specs.declared.command.ScriptItem.{ScriptItem}
 use Rattle.ms_base.specs.declared.command.ScriptItem.TheVariants.{Command as is_command, BadCommand, Unfinished}
-use Rattle.ms_base.specs.declared.token.Token.{Token}
 use Rattle.ms_base.specs.Tokens.{tokens_of, is_word}
 use Rattle.ms_base.specs.Grammar.{Word, named, word_not, word_if, word_comma, word_dot, word_of}
 

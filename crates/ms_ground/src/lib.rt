@@ -25,7 +25,8 @@ pub struct NamedModule {
     pub rules: GroundRules,
 }
 
-/// The ground module of the rules over an empty base.
+/// The ground module of the rules over an empty base. It fails only for want of memory, which a base of
+/// more atoms than 32 bits can number also counts as.
 pub fn ground(alloc: Global, texts: &[SmallRule]) -> Result<NamedModule, OutOfMemory>
     ensures exact { IfOk result (λ m. IsModule texts.now m.names m.rules) }
     ensures over_base { IfOk result (λ m. All (IsRuleOver (length m.names)) m.rules) }

@@ -109,6 +109,7 @@ fn heads(alloc: Global, texts: &[SmallRule]) -> Result<Vec<&Bytes>, OutOfMemory>
     Ok(heads)
 }
 
+/// Names of their own, in the same order.
 fn copies(alloc: Global, names: &[&Bytes]) -> Result<Names, OutOfMemory>
     ensures { IfOk result (λ copies. copies ≡ map (λ name. name.now) names.now) }
 {

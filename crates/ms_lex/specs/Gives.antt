@@ -1,5 +1,5 @@
 -- What `lex` answers, against the tokens of the text.
-use Rattle.std.specs.Prelude.{ℕ, ◌≡◌, List, Result, Ok, Err, ⊤}
+use Rattle.std.specs.Prelude.{◌≡◌, ◌≤◌, List, Result, Ok, Err, ⊤}
 use Rattle.ms_base.specs.declared.token.Token.{Token}
 use Rattle.ms_base.specs.declared.token.BadByte.{BadByte}
 use Rattle.ms_lex.specs.declared.LexFault.{LexFault}
@@ -10,3 +10,7 @@ Gives (Ok tokens) of = of ≡ Ok tokens
 Gives (Err (bad_byte at line)) of = of ≡ Err (record { at = at; line = line })
 -- want of memory may come at any time
 Gives (Err OutOfMemory) of = ⊤
+
+-- the first token ends where the second begins, or before
+abbrev pub ComesBefore : Token → Token → Type 0
+ComesBefore first second = first.end ≤ second.start

@@ -1,1 +1,2 @@
 mod ShownLists
+mod Fronts

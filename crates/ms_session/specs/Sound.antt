@@ -1,5 +1,5 @@
 -- What a session keeps true of its state.
-use Rattle.std.specs.Prelude.{ℕ, List, All, length}
+use Rattle.std.specs.Prelude.{List, All, length}
 use Rattle.std.specs.List.Sorted.{IsStrictlySortedBy}
 use Rattle.std.specs.Ordering.{nat_cmp}
 use Rattle.std.specs.Cmp.Lexicographic.{slice_cmp}

@@ -1,5 +1,5 @@
 -- What reading an input to its end answers and leaves.
-use Rattle.std.specs.Prelude.{ℕ, ◌≡◌, ◌<◌, ◌≤◌, ◌+◌, ◌^◌, List, [], ◌++◌, length, take, drop, Option, Some, None, Result, Ok, Err}
+use Rattle.std.specs.Prelude.{ℕ, ◌≡◌, ◌<◌, ◌≤◌, ◌+◌, ◌^◌, List, [], ◌++◌, length, take, drop, Option, Some, Result, Ok, Err}
 use Rattle.mshot.specs.declared.input.InputStop.{InputStop}
 use Rattle.mshot.specs.declared.input.InputStop.TheVariants.{Fault, TooLong, OutOfMemory}
 

@@ -1,5 +1,5 @@
 -- What a call leaves written and read, for each status.
-use Rattle.std.specs.Prelude.{ℕ, ◌≡◌, ◌<◌, ◌≤◌, ◌+◌, Bool, true, false, List, [], ◌∷◌, ◌++◌, length, take, drop, Option, Some}
+use Rattle.std.specs.Prelude.{ℕ, ◌≡◌, ◌<◌, ◌≤◌, ◌+◌, Bool, true, false, List, [], ◌++◌, length, take, drop, Option, Some}
 use Rattle.std.specs.List.{list_any}
 use Rattle.ms_base.specs.declared.command.ScriptItem.{ScriptItem}
 use Rattle.ms_base.specs.declared.reply.Reply.{Reply}

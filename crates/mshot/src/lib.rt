@@ -9,3 +9,6 @@ pub mod words;
 
 pub use status::Status;
 pub use top::mshot;
+
+#[cfg(test)]
+mod tests;

@@ -1,5 +1,4 @@
-use Rattle.std.proofs.Common.{rules, ◌≡◌, ◌∙◌, ◌≤◌, ◌<◌, ◌+◌, ◌^◌, ℕ, Some, Ok, Err, drop, vec_len, length, sym, subst, ap, arith}
-use Rattle.std.proofs.lemmas.Grind.{common_steps}
+use Rattle.std.proofs.Common.{rules, ◌≡◌, ◌∙◌, ◌≤◌, ◌<◌, ◌+◌, ◌^◌, Some, Ok, Err, drop, vec_len, length, subst, ap, arith}
 use Rattle.mshot.specs.Input.{most_bytes, ReadsPiece}
 use Rattle.mshot.proofs.Reading.{read_more, read_end, read_stop}
 use Rattle.mshot.proofs.input.read_all.Goals as goal

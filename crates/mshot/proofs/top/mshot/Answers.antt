@@ -1,6 +1,5 @@
-use Rattle.std.proofs.Common.{◌<◌, ◌≤◌, ℕ, List, length, false, refl, arith}
+use Rattle.std.proofs.Common.{false, refl, arith}
 use Rattle.ms_base.specs.Machine.{start}
-use Rattle.mshot.specs.Input.{most_bytes}
 use Rattle.mshot.proofs.Progress.{answered_none, answered_front}
 use Rattle.mshot.proofs.top.mshot.Goals as goal
 
@@ -12,12 +11,12 @@ returns-in-Err-TooLong-clause-input g c = λ words script at. rw c.in-Err-TooLon
 
 pub returns-in-Err-TooLong-clause-complete : goal.returns-in-Err-TooLong-clause-complete
 returns-in-Err-TooLong-clause-complete g c = λ words script at few quiet still.
-  let over = rw c.in-Err-TooLong.field-0-is at (c.in-Err-TooLong.ensures.input script at) in
-  omega (arith, over.0)
+    let over = rw c.in-Err-TooLong.field-0-is at (c.in-Err-TooLong.ensures.input script at) in
+    omega (arith, over.0)
 
 pub returns-in-Err-OutOfMemory-clause-input : goal.returns-in-Err-OutOfMemory-clause-input
 returns-in-Err-OutOfMemory-clause-input g c = λ words script at. rw c.in-Err-OutOfMemory.field-0-is at (c.in-Err-OutOfMemory.ensures.input script at)
 
 pub returns-in-Err-OutOfMemory-clause-replies : goal.returns-in-Err-OutOfMemory-clause-replies
 returns-in-Err-OutOfMemory-clause-replies g c = λ words script held at told.
-  answered_front script script start false held (g.K.Sink.held c.args.out.now) (answered_none script start held (g.K.Sink.held c.args.out.now) refl told)
+    answered_front script script start false held (g.K.Sink.held c.args.out.now) (answered_none script start held (g.K.Sink.held c.args.out.now) refl told)

@@ -1,0 +1,4 @@
+pub mod InLine
+pub mod NameLens
+pub mod Reading
+pub mod Steps

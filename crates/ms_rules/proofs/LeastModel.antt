@@ -1,0 +1,58 @@
+-- What a rule asks for is in each model of the reduct, and a mark keeps the marked atoms within the models.
+use Rattle.std.proofs.Common.{◌≡◌, ◌<◌, ℕ, Bool, true, false, not, cond, IsTrue, List, [], ◌∷◌, Some, length, get_or, set, refl, sym, subst, ◌∙◌, ap, ⊎_elim, arith}
+use Rattle.std.specs.Option.{IsSomeAnd}
+use Rattle.std.specs.Bool.{⊤}
+use Rattle.std.specs.List.{list_all}
+use Rattle.std.proofs.lemmas.Bool.{and_parts, and_from, both_ways, cases_eq}
+use Rattle.std.proofs.lemmas.List.{get_or-set_other}
+use Rattle.std.proofs.lemmas.List.Sums.{sum_by-set}
+use Rattle.std.proofs.lemmas.Option.{MatchOption-at_some}
+use Rattle.ms_base.specs.declared.ground_rule.GroundRule.{GroundRule}
+use Rattle.ms_base.specs.declared.ground_rule.GroundKind.TheVariants.{Normal}
+use Rattle.ms_base.specs.AnswerSets.{has_all, has_none, Keeps, IsReductModel, IsRuleOver, HasHead}
+use Rattle.ms_rules.specs.Flags.{flag_at}
+use Rattle.ms_rules.specs.LeastModel.{AsksFor, IsWithinModels, unmarked_count}
+
+-- a larger set has all that a smaller one has
+pub list_all-larger : (p q : ℕ → Bool) → ((a : ℕ) → IsTrue (p a) → IsTrue (q a)) → (xs : List ℕ) → IsTrue (list_all p xs) → IsTrue (list_all q xs)
+list_all-larger p q h [] e = refl
+list_all-larger p q h (x ∷ xs) e =
+    let parts = and_parts (p x) (list_all p xs) e in
+    and_from (q x) (list_all q xs) (h x parts.0) (list_all-larger p q h xs parts.1)
+
+kept_head : (by of : ℕ → Bool) (rule : GroundRule) (a : ℕ) → rule.kind ≡ Normal → IsTrue (has_none by rule.neg) → IsTrue (has_all of rule.pos) → rule.head ≡ Some a → Keeps by of rule.kind rule → IsTrue (of a)
+kept_head by of rule a kind neg pos head keeps =
+    let normal : Keeps by of Normal rule = subst (λ k. Keeps by of k rule) kind keeps in
+    MatchOption-at_some ⊤ (λ h. IsTrue (of h)) a head (normal neg pos)
+
+-- what a rule asks for is in each model
+pub asked_in_models : (rules : List GroundRule) (by of : ℕ → Bool) (k : ℕ) (rule : GroundRule) (a : ℕ) → k < length rules → rule ≡ get_or rules k rule → IsWithinModels rules by of → AsksFor by of rule a → (other : ℕ → Bool) → IsReductModel rules by other → IsTrue (other a)
+asked_in_models rules by of k rule a lt read below asks other model =
+    let keeps : Keeps by other rule.kind rule = subst (λ r. Keeps by other r.kind r) (sym read) (model k rule lt) in
+    kept_head by other rule a asks.kind asks.neg (list_all-larger of other (below.within other model) rule.pos asks.pos) asks.head keeps
+
+-- so the mark keeps what is marked within the models
+pub IsWithinModels-mark : (rules : List GroundRule) (by : ℕ → Bool) (flags : List Bool) (k : ℕ) (rule : GroundRule) (a : ℕ) → k < length rules → rule ≡ get_or rules k rule → a < length flags → IsWithinModels rules by (flag_at flags) → AsksFor by (flag_at flags) rule a → IsWithinModels rules by (flag_at (set flags a true))
+IsWithinModels-mark rules by flags k rule a lt read in_range below asks = record {
+  within = λ other model b marked.
+      ⊎_elim (λ (same : b ≡ a). subst (λ x. IsTrue (other x)) (sym same) (asked_in_models rules by (flag_at flags) k rule a lt read below asks other model))
+      (λ (differs : b ≡ a → ⊥). below.within other model b (sym (get_or-set_other flags a b true false differs) ∙ marked))
+      (cases_eq b a);
+}
+
+-- a set that lacks what is asked for is no model
+pub outside_is_no_model : (rules : List GroundRule) (by of : ℕ → Bool) (k : ℕ) (rule : GroundRule) (a : ℕ) → k < length rules → rule ≡ get_or rules k rule → IsWithinModels rules by of → AsksFor by of rule a → by a ≡ false → ¬ (IsReductModel rules by by)
+outside_is_no_model rules by of k rule a lt read below asks lacks model =
+    both_ways (by a) lacks (asked_in_models rules by of k rule a lt read below asks by model)
+
+-- each mark leaves fewer atoms to mark
+pub unmarked_count-mark : (flags : List Bool) (a : ℕ) → a < length flags → flag_at flags a ≡ false → unmarked_count (set flags a true) < unmarked_count flags
+unmarked_count-mark flags a in_range lacks =
+    let weight : Bool → ℕ = λ x. cond (not x) 1 0 in
+    omega (arith, sum_by-set weight flags a true false in_range, ap weight lacks)
+
+-- the head of a rule over the base is an atom of it
+pub asked_in_range : (n : ℕ) (by of : ℕ → Bool) (rule : GroundRule) (a : ℕ) → IsRuleOver n rule → AsksFor by of rule a → a < n
+asked_in_range n by of rule a over asks =
+    let head : HasHead n Normal rule.head = subst (λ k. HasHead n k rule.head) asks.kind over.head in
+    subst (λ o. IsSomeAnd o (λ h. h < n)) asks.head head

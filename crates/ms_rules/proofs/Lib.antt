@@ -1,0 +1,3 @@
+mod AnswerSets
+mod LeastModel
+mod Passing

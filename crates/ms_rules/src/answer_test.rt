@@ -1,0 +1,55 @@
+// The test whether a set of atoms is an answer set.
+ghost use Rattle.std.specs.Prelude.{◌≡◌, [], ◌↔◌, IsTrue, All, length};
+ghost use Rattle.ms_base.specs.AnswerSets.{Allows, IsAnswerSet, IsAtomSet, IsRuleOver, set_of};
+ghost use Rattle.ms_rules.specs.Flags.{flag_at};
+
+use crate::AtomSet;
+use crate::flags::{has_all, has_none, write_flags};
+use crate::least_model::mark_least_model;
+use crate::scratch::Scratch;
+use ms_base::ground_rule::{GroundKind, GroundRule, Rules};
+
+/// Whether the rule allows the set. A constraint doesn't where its body holds.
+fn allows(rule: &GroundRule, in_set: &[bool]) -> bool
+    ensures { IsTrue result ↔ Allows (flag_at in_set.now) rule.now.kind rule.now }
+{
+    match rule.kind {
+        GroundKind::Normal => true,
+        GroundKind::Constraint => {
+            !(has_all(in_set, rule.pos.as_slice()) && has_none(in_set, rule.neg.as_slice()))
+        }
+    }
+}
+
+fn allows_each(rules: &[GroundRule], in_set: &[bool]) -> bool
+    ensures { IsTrue result ↔ All (λ rule. Allows (flag_at in_set.now) rule.kind rule) rules.now }
+{
+    rules.iter().all(|rule| allows(rule, in_set))
+}
+
+/// Whether the set of the flags is an answer set, for which it marks atoms in `derived`.
+fn is_stable(rules: &[GroundRule], in_set: &[bool], derived: &mut [bool]) -> bool
+    requires over_base { All (IsRuleOver (length derived.old)) rules.now }
+    requires same_base { length in_set.now ≡ length derived.old }
+    ensures { IsTrue result ↔ IsAnswerSet rules.now [] (flag_at in_set.now) }
+{
+    if !allows_each(rules, in_set) || !mark_least_model(rules, in_set, derived) {
+        return false;
+    }
+    *in_set == *derived
+}
+
+/// Whether the set is an answer set of the rules. It takes no memory.
+///
+/// The atoms and the rules are over the base that `scratch` has room for.
+pub fn is_answer(join: &Rules, set: &AtomSet, scratch: &mut Scratch) -> bool
+    requires over_base { All (IsRuleOver scratch.old) join.now.rules }
+    requires set { IsAtomSet scratch.old set.now }
+    ensures exact { IsTrue result ↔ IsAnswerSet join.now.rules [] (set_of set.now) }
+    ensures room { scratch.new ≡ scratch.old }
+{
+    let in_set = scratch.in_set.as_mut_slice();
+    let derived = scratch.derived.as_mut_slice();
+    write_flags(set.as_slice(), in_set);
+    is_stable(join.rules.as_slice(), in_set, derived)
+}

@@ -1,0 +1,36 @@
+// Sets of atoms as flags, one for each atom of the base.
+ghost use Rattle.std.specs.Prelude.{ℕ, ◌≡◌, ◌<◌, All, length};
+ghost use Rattle.ms_base.specs.AnswerSets.{has_all, has_none, set_of};
+ghost use Rattle.ms_rules.specs.Flags.{flag_at};
+
+use ms_base::atom_id::AtomId;
+
+/// Whether the atom's flag is set. An atom past the end has none.
+pub(crate) fn is_marked(flags: &[bool], atom: AtomId) -> bool
+    ensures { result ≡ flag_at flags.now atom }
+{
+    flags.get(atom.0 as usize).copied().unwrap_or(false)
+}
+
+pub(crate) fn has_all(flags: &[bool], atoms: &[AtomId]) -> bool
+    ensures { result ≡ has_all (flag_at flags.now) atoms.now }
+{
+    atoms.iter().all(|atom| is_marked(flags, *atom))
+}
+
+pub(crate) fn has_none(flags: &[bool], atoms: &[AtomId]) -> bool
+    ensures { result ≡ has_none (flag_at flags.now) atoms.now }
+{
+    atoms.iter().all(|atom| !is_marked(flags, *atom))
+}
+
+/// Sets the flags of the atoms, and clears all others.
+pub(crate) fn write_flags(atoms: &[AtomId], flags: &mut [bool])
+    requires { All (λ a. a < length flags.old) atoms.now }
+    ensures { (a : ℕ) → flag_at flags.new a ≡ set_of atoms.now a }
+{
+    flags.fill(false);
+    for atom in atoms {
+        flags[atom.0 as usize] = true;
+    }
+}

@@ -1,0 +1,163 @@
+ghost use Rattle.std.specs.Prelude.{All, IfOk, ◌<◌};
+ghost use Rattle.ms_base.specs.AnswerSets.{IsAtomSet, IsRuleOver};
+
+use crate::{
+    AtomId, AtomIds, AtomSet, GroundKind, GroundRule, OutOfMemory, Rules, Scratch, is_answer,
+};
+use ms_base::seq::Seq;
+use std::alloc::Global;
+use std::test::Fail;
+
+/// An atom of a base of two.
+#[derive(Clone, Copy)]
+enum Atom {
+    A,
+    B,
+}
+
+/// A rule with at most one positive and one negated atom.
+#[derive(Clone, Copy)]
+struct TinyRule {
+    head: Option<Atom>,
+    pos: Option<Atom>,
+    neg: Option<Atom>,
+}
+
+fn number(atom: Atom) -> AtomId
+    ensures { result < 2 }
+{
+    match atom {
+        Atom::A => AtomId(0),
+        Atom::B => AtomId(1),
+    }
+}
+
+fn numbers(alloc: Global, atom: Option<Atom>) -> Result<AtomIds, OutOfMemory>
+    ensures { IfOk result (All (λ a. a < 2)) }
+{
+    let mut atoms = Seq::new(alloc);
+    if let Some(atom) = atom {
+        atoms.push(number(atom))?;
+    }
+    Ok(atoms)
+}
+
+fn rule_of(alloc: Global, row: TinyRule) -> Result<GroundRule, OutOfMemory>
+    ensures { IfOk result (IsRuleOver 2) }
+{
+    let pos = numbers(alloc, row.pos)?;
+    let neg = numbers(alloc, row.neg)?;
+    let (kind, head) = match row.head {
+        Some(atom) => (GroundKind::Normal, Some(number(atom))),
+        None => (GroundKind::Constraint, None),
+    };
+    Ok(GroundRule {
+        kind,
+        head,
+        pos,
+        neg,
+    })
+}
+
+fn join_of(alloc: Global, rows: &[TinyRule]) -> Result<Rules, OutOfMemory>
+    ensures { IfOk result (λ join. All (IsRuleOver 2) join.rules) }
+{
+    let mut rules = Seq::new(alloc);
+    for row in rows {
+        rules.push(rule_of(alloc, *row)?)?;
+    }
+    Ok(Rules { rules })
+}
+
+fn set_of(alloc: Global, has_a: bool, has_b: bool) -> Result<AtomSet, OutOfMemory>
+    ensures { IfOk result (IsAtomSet 2) }
+{
+    let mut atoms = Seq::new(alloc);
+    if has_a {
+        atoms.push(AtomId(0))?;
+    }
+    if has_b {
+        atoms.push(AtomId(1))?;
+    }
+    Ok(atoms)
+}
+
+/// Whether the rules answer with the set.
+fn answers(
+    alloc: Global,
+    rows: &[TinyRule],
+    has_a: bool,
+    has_b: bool,
+) -> Result<bool, OutOfMemory> {
+    let join = join_of(alloc, rows)?;
+    let set = set_of(alloc, has_a, has_b)?;
+    let mut scratch = Scratch::new(alloc, 2)?;
+    Ok(is_answer(&join, &set, &mut scratch))
+}
+
+const fn tiny(head: Option<Atom>, pos: Option<Atom>, neg: Option<Atom>) -> TinyRule {
+    TinyRule { head, pos, neg }
+}
+
+#[test]
+fn answers_of_two_atoms(rt: HostRuntime) -> Result<(), Fail> {
+    let alloc = rt.alloc();
+    let a = Some(Atom::A);
+    let b = Some(Atom::B);
+    // the answers for {}, {a}, {b} and {a, b}
+    let table = [
+        (
+            "a :- not b. b :- not a.",
+            [tiny(a, None, b), tiny(b, None, a)],
+            [false, true, true, false],
+        ),
+        (
+            "a :- b. b :- a.",
+            [tiny(a, b, None), tiny(b, a, None)],
+            [true, false, false, false],
+        ),
+        (
+            "a :- not b. :- a.",
+            [tiny(a, None, b), tiny(None, a, None)],
+            [false, false, false, false],
+        ),
+        (
+            "b :- not a. :- a.",
+            [tiny(b, None, a), tiny(None, a, None)],
+            [false, false, true, false],
+        ),
+        (
+            "b :- a. a.",
+            [tiny(b, a, None), tiny(a, None, None)],
+            [false, false, false, true],
+        ),
+        (
+            "a :- not a. a :- b.",
+            [tiny(a, None, a), tiny(a, b, None)],
+            [false, false, false, false],
+        ),
+    ];
+    for (text, rows, wanted) in &table {
+        assert_eq!(rt;
+            answers(alloc, rows, false, false)?,
+            wanted[0],
+            "{{}} by {text}"
+        );
+        assert_eq!(rt;
+            answers(alloc, rows, true, false)?,
+            wanted[1],
+            "{{a}} by {text}"
+        );
+        assert_eq!(rt;
+            answers(alloc, rows, false, true)?,
+            wanted[2],
+            "{{b}} by {text}"
+        );
+        assert_eq!(rt;
+            answers(alloc, rows, true, true)?,
+            wanted[3],
+            "{{a, b}} by {text}"
+        );
+    }
+    Ok(())
+}

@@ -1,0 +1,4 @@
+pub mod FirstLines
+pub mod Meanings
+pub mod Scripts
+pub mod TextLines
