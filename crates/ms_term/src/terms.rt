@@ -245,7 +245,8 @@ impl Terms {
         }
     }
 
-    /// Appends the text of a term.
+    /// Appends the text of a term. What `into` holds after an error is open: a part of the text may
+    /// stand in it.
     #[cycle(print)]
     pub fn print(&self, t: TermId, into: &mut Vec<u8>) -> Result<(), OutOfMemory>
         requires { t < length (trees self.now) }
