@@ -1,0 +1,5 @@
+pub mod Tables
+pub mod Equal
+pub mod Sizes
+pub mod Orders
+pub mod Texts

@@ -1,0 +1,81 @@
+ghost use Rattle.std.specs.Prelude.{◌≡◌, ◌∷◌, [], ◌++◌, List, OnOk};
+ghost use Rattle.ms_tree.specs.Tree.{Tree, number, text};
+ghost use Rattle.ms_tree.specs.Text.{tree_text, escaped, escaped_byte, no_arguments_text, closing_text};
+ghost use Rattle.ms_term.specs.Terms.{terms_at};
+
+use crate::term_id::TermId;
+use ms_base::memory::OutOfMemory;
+
+// Appends an integer in decimal.
+pub(crate) fn print_number(n: i64, into: &mut Vec<u8>) -> Result<(), OutOfMemory>
+    ensures { OnOk result (into.new.items ≡ into.old.items ++ tree_text (number n)) }
+{
+    let mut buffer = itoa::Buffer::new();
+    into.extend_from_slice(buffer.format(n).as_bytes())?;
+    Ok(())
+}
+
+// Appends a string in double quotes.
+pub(crate) fn print_string(bytes: &[u8], into: &mut Vec<u8>) -> Result<(), OutOfMemory>
+    ensures { OnOk result (into.new.items ≡ into.old.items ++ tree_text (text bytes.now)) }
+{
+    into.push(b'"')?;
+    print_escaped(bytes, into)?;
+    into.push(b'"')?;
+    Ok(())
+}
+
+fn print_escaped(bytes: &[u8], into: &mut Vec<u8>) -> Result<(), OutOfMemory>
+    ensures { OnOk result (into.new.items ≡ into.old.items ++ escaped bytes.now) }
+{
+    let mut rest = bytes;
+    while let [byte, after @ ..] = rest {
+        print_byte(*byte, into)?;
+        rest = after;
+    }
+    Ok(())
+}
+
+fn print_byte(byte: u8, into: &mut Vec<u8>) -> Result<(), OutOfMemory>
+    ensures { OnOk result (into.new.items ≡ into.old.items ++ escaped_byte byte) }
+{
+    if byte == b'"' {
+        into.extend_from_slice(b"\\\"")?;
+    } else if byte == b'\\' {
+        into.extend_from_slice(b"\\\\")?;
+    } else if byte == b'\n' {
+        into.extend_from_slice(b"\\n")?;
+    } else {
+        into.push(byte)?;
+    }
+    Ok(())
+}
+
+// What follows the name of a function without arguments.
+pub(crate) fn end_without_arguments(name: &[u8]) -> &'static [u8]
+    ensures { result.now ≡ no_arguments_text name.now }
+{
+    match name {
+        [] => b"()",
+        _ => b"",
+    }
+}
+
+// What ends the text of a function that has these arguments after its first.
+pub(crate) fn closing(name: &[u8], after: &[TermId]) -> &'static [u8]
+    ensures { (ts : List Tree) → result.now ≡ closing_text name.now (terms_at ts after.now) }
+{
+    match name {
+        [] => closing_of_tuple(after),
+        _ => b")",
+    }
+}
+
+fn closing_of_tuple(after: &[TermId]) -> &'static [u8]
+    ensures { (ts : List Tree) → result.now ≡ closing_text [] (terms_at ts after.now) }
+{
+    match after {
+        [] => b",)",
+        _ => b")",
+    }
+}

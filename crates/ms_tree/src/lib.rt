@@ -1,0 +1,2 @@
+// Ground terms as trees: their order, text, size and arithmetic. The definitions stand in specs/.
+#![tactic(auto)]
