@@ -4,7 +4,7 @@ ghost use Rattle.ms_lits.specs.Literals.{opposite_of};
 use ms_base::seq::Seq;
 
 /// A literal: a variable, and the truth that it has where the literal holds.
-#[derive(Clone, Copy, Debug, PartialEq, Eq, PartialOrd, Ord)]
+#[derive(Clone, Copy, Debug, Default, PartialEq, Eq, PartialOrd, Ord)]
 pub struct Lit {
     pub var: u32,
     pub truth: bool,

@@ -36,9 +36,9 @@ pub record Adds (old new : Store) (lits : Nogood) (kind : Kind) (key : ℕ) : Ty
   pub others : (other : ℕ) → other ≢ key → nogood_at new other ≡ nogood_at old other
   pub kept : new.kept ≡ kept_after old.kept kind key
 
--- no key is at the end or above it
-pub record IsStore (slots : List (Option Stored)) (end : ℕ) : Type 0 where
-  pub ended : (key : ℕ) → end ≤ key → slice_index_or slots key None ≡ None
+-- each key is below the capacity
+pub record IsStore (slots : List (Option Stored)) (capacity : ℕ) : Type 0 where
+  pub ended : (key : ℕ) → capacity ≤ key → slice_index_or slots key None ≡ None
 
 -- what is left of a nogood at the end of a solve
 abbrev pub lasting : Option Stored → Option Stored

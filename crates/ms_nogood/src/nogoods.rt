@@ -27,8 +27,6 @@ impl Model for Slot {
 pub struct Nogoods {
     alloc: Global,
     slots: Slab<Slot>,
-    /// Above every key.
-    end: usize,
     /// The keys of the kept nogoods, in the order in which they were added.
     kept: Vec<usize>,
 }
@@ -40,7 +38,7 @@ impl Model for Nogoods {
 
     ghost view = { λ n. record { slots = n.slots.slots; kept = n.kept.items } };
 
-    ghost invariant = { λ n. IsStore n.slots.slots n.end };
+    ghost invariant = { λ n. IsStore n.slots.slots n.slots.capacity };
 }
 
 impl Nogoods {
@@ -51,7 +49,6 @@ impl Nogoods {
         Nogoods {
             alloc,
             slots: Slab::new(alloc),
-            end: 0,
             kept: Vec::new(alloc),
         }
     }
@@ -64,9 +61,6 @@ impl Nogoods {
         let lits = SmallVec::from_slice(self.alloc, lits)?;
         self.kept.reserve(1)?;
         let key = self.slots.insert(Slot { lits, kind })?;
-        if self.end <= key {
-            self.end = key + 1;
-        }
         if let Kind::Kept = kind {
             self.kept.push(key)?;
         }
@@ -99,7 +93,7 @@ impl Nogoods {
     pub fn end_solve(&mut self)
         ensures { EndsSolve self.old self.new }
     {
-        for key in 0..self.end {
+        for key in 0..self.slots.capacity() {
             let ends = match self.slots.get(key) {
                 Some(slot) => slot.kind.ends_with_solve(),
                 None => false,

@@ -5,7 +5,7 @@ use Rattle.ms_nogood.proofs.nogoods.Nogoods.end_solve.Given as goal
 abbrev pub invariant-loop-key : goal.invariant-loop-key
 invariant-loop-key l = record {
   kept : l.self-inside.kept ≡ l.initial.self-inside.kept;
-  end : l.self-inside.end ≡ l.initial.self-inside.end;
+  capacity : l.self-inside.slots.capacity ≡ l.initial.self-inside.slots.capacity;
   below : (key : ℕ) → key < l.key → get_or l.self-inside.slots.slots key None ≡ lasting (get_or l.initial.self-inside.slots.slots key None);
   above : (key : ℕ) → l.key ≤ key → get_or l.self-inside.slots.slots key None ≡ get_or l.initial.self-inside.slots.slots key None;
 }
