@@ -1,0 +1,9 @@
+// The store of nogoods.
+#![tactic(auto)]
+
+mod kind;
+mod nogoods;
+
+pub use kind::Kind;
+pub use ms_lits::{Lit, OutOfMemory};
+pub use nogoods::Nogoods;

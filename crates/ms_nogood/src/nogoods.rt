@@ -1,0 +1,106 @@
+ghost use Rattle.std.specs.Prelude.{◌≡◌, ◌≢◌, ◌++◌, [], IfOk, OnErr, IsSome, Some, None, AllPairs, option_map, ℕ};
+ghost use Rattle.ms_nogood.specs.Store.{Adds, nogood_at, kept_after, EndsSolve};
+
+use crate::kind::Kind;
+use ms_lits::{Lit, OutOfMemory};
+use slab::Slab;
+use smallvec::SmallVec;
+use std::alloc::Global;
+use std::marker::Model;
+
+#[derive(Drop)]
+struct Slot {
+    lits: SmallVec<Lit, 4>,
+    kind: Kind,
+}
+
+impl Model for Slot {
+    ghost use Rattle.ms_nogood.specs.Store.{Stored};
+
+    ghost Value = { Stored };
+
+    ghost view = { λ s. record { lits = s.lits.items; kind = s.kind } };
+}
+
+/// Nogoods under keys. A key keeps its nogood and its kind until it is dropped.
+#[derive(Drop)]
+pub struct Nogoods {
+    alloc: Global,
+    slots: Slab<Slot>,
+    /// The keys of the kept nogoods, in the order in which they were added.
+    kept: Vec<usize>,
+}
+
+impl Model for Nogoods {
+    ghost use Rattle.ms_nogood.specs.Store.{Store, IsStore};
+
+    ghost Value = { Store };
+
+    ghost view = { λ n. record { slots = n.slots.slots; kept = n.kept.items } };
+
+    ghost invariant = { λ n. IsStore n.slots.slots n.slots.capacity };
+}
+
+impl Nogoods {
+    /// An empty store.
+    pub fn new(alloc: Global) -> Nogoods
+        ensures { result ≡ record { slots = []; kept = [] } }
+    {
+        Nogoods {
+            alloc,
+            slots: Slab::new(alloc),
+            kept: Vec::new(alloc),
+        }
+    }
+
+    /// Adds a nogood of different variables, under a new key.
+    pub fn add(&mut self, lits: &[Lit], kind: Kind) -> Result<usize, OutOfMemory>
+        requires { AllPairs (λ l m. l.var ≢ m.var) lits.now }
+        ensures { IfOk result (Adds self.old self.new lits.now kind) }
+    {
+        let lits = SmallVec::from_slice(self.alloc, lits)?;
+        self.kept.reserve(1)?;
+        let key = self.slots.insert(Slot { lits, kind })?;
+        if let Kind::Kept = kind {
+            self.kept.push(key)?;
+        }
+        Ok(key)
+    }
+
+    /// The literals of the nogood of a key.
+    pub fn get(&self, key: usize) -> &[Lit]
+        requires { IsSome (nogood_at self.now key) }
+        ensures { option_map (λ s. s.lits) (nogood_at self.now key) ≡ Some result.now }
+    {
+        match self.slots.get(key) {
+            Some(slot) => slot.lits.as_slice(),
+            None => unreachable!(),
+        }
+    }
+
+    /// The kind of the nogood of a key.
+    pub fn kind(&self, key: usize) -> Kind
+        requires { IsSome (nogood_at self.now key) }
+        ensures { option_map (λ s. s.kind) (nogood_at self.now key) ≡ Some result }
+    {
+        match self.slots.get(key) {
+            Some(slot) => slot.kind,
+            None => unreachable!(),
+        }
+    }
+
+    /// Drops the nogoods that last for one solve: those of the kinds Temporary and Reason.
+    pub fn end_solve(&mut self)
+        ensures { EndsSolve self.old self.new }
+    {
+        for key in 0..self.slots.capacity() {
+            let ends = match self.slots.get(key) {
+                Some(slot) => slot.kind.ends_with_solve(),
+                None => false,
+            };
+            if ends {
+                self.slots.try_remove(key);
+            }
+        }
+    }
+}
