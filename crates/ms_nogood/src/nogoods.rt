@@ -1,5 +1,5 @@
 ghost use Rattle.std.specs.Prelude.{◌≡◌, ◌≢◌, ◌++◌, [], IfOk, OnErr, IsSome, Some, None, AllPairs, option_map, ℕ};
-ghost use Rattle.ms_nogood.specs.Store.{Adds, nogood_at, kept_after, EndsSolve};
+ghost use Rattle.ms_nogood.specs.Store.{Adds, nogood_at, kept_after, EndsSolve, AreKept, Trims};
 
 use crate::kind::Kind;
 use ms_lits::{Lit, OutOfMemory};
@@ -38,7 +38,7 @@ impl Model for Nogoods {
 
     ghost view = { λ n. record { slots = n.slots.slots; kept = n.kept.items } };
 
-    ghost invariant = { λ n. IsStore n.slots.slots n.slots.capacity };
+    ghost invariant = { λ n. IsStore n.slots.slots n.kept.items n.slots.capacity };
 }
 
 impl Nogoods {
@@ -56,13 +56,17 @@ impl Nogoods {
     /// Adds a nogood of different variables, under a new key.
     pub fn add(&mut self, lits: &[Lit], kind: Kind) -> Result<usize, OutOfMemory>
         requires { AllPairs (λ l m. l.var ≢ m.var) lits.now }
-        ensures { IfOk result (Adds self.old self.new lits.now kind) }
+        ensures added { IfOk result (Adds self.old self.new lits.now kind) }
+        ensures unchanged { OnErr result (self.new ≡ self.old) }
     {
         let lits = SmallVec::from_slice(self.alloc, lits)?;
         self.kept.reserve(1)?;
         let key = self.slots.insert(Slot { lits, kind })?;
         if let Kind::Kept = kind {
-            self.kept.push(key)?;
+            match self.kept.push(key) {
+                Ok(()) => (),
+                Err(_) => unreachable!(),
+            }
         }
         Ok(key)
     }
@@ -81,7 +85,8 @@ impl Nogoods {
     /// The kind of the nogood of a key.
     pub fn kind(&self, key: usize) -> Kind
         requires { IsSome (nogood_at self.now key) }
-        ensures { option_map (λ s. s.kind) (nogood_at self.now key) ≡ Some result }
+        ensures kind { option_map (λ s. s.kind) (nogood_at self.now key) ≡ Some result }
+        ensures order { AreKept self.now.slots self.now.kept }
     {
         match self.slots.get(key) {
             Some(slot) => slot.kind,
@@ -102,5 +107,16 @@ impl Nogoods {
                 self.slots.try_remove(key);
             }
         }
+    }
+
+    /// Drops the kept nogoods but for so many that were added last.
+    pub fn trim(&mut self, keep: u64)
+        ensures { Trims self.old self.new keep }
+    {
+        let count = self.kept.len().saturating_sub(keep as usize);
+        for i in 0..count {
+            self.slots.try_remove(self.kept[i]);
+        }
+        self.kept.drain(..count);
     }
 }
