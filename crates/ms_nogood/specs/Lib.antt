@@ -1,1 +1,3 @@
 pub mod Store
+pub mod Propagation
+pub mod Looks

@@ -3,7 +3,9 @@
 
 mod kind;
 mod nogoods;
+mod scan;
 
 pub use kind::Kind;
 pub use ms_lits::{Lit, OutOfMemory};
 pub use nogoods::Nogoods;
+pub use scan::Scan;

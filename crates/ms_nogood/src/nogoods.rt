@@ -1,4 +1,4 @@
-ghost use Rattle.std.specs.Prelude.{◌≡◌, ◌≢◌, ◌++◌, [], IfOk, OnErr, IsSome, Some, None, AllPairs, option_map, ℕ};
+ghost use Rattle.std.specs.Prelude.{◌≡◌, ◌≢◌, ◌++◌, [], IfOk, OnErr, IsSome, Some, None, AllPairs, option_map, MatchOption, ◌≤◌, ℕ};
 ghost use Rattle.ms_nogood.specs.Store.{Adds, nogood_at, kept_after, EndsSolve, AreKept, Trims};
 
 use crate::kind::Kind;
@@ -80,6 +80,23 @@ impl Nogoods {
             Some(slot) => slot.lits.as_slice(),
             None => unreachable!(),
         }
+    }
+
+    /// The literals of the nogood of a key, where it has one.
+    pub(crate) fn find(&self, key: usize) -> Option<&[Lit]>
+        ensures { MatchOption result (nogood_at self.now key ≡ None) (λ lits. option_map (λ s. s.lits) (nogood_at self.now key) ≡ Some lits.now) }
+    {
+        match self.slots.get(key) {
+            Some(slot) => Some(slot.lits.as_slice()),
+            None => None,
+        }
+    }
+
+    /// A number above all keys.
+    pub(crate) fn end(&self) -> usize
+        ensures { (key : ℕ) → result ≤ key → nogood_at self.now key ≡ None }
+    {
+        self.slots.capacity()
     }
 
     /// The kind of the nogood of a key.
