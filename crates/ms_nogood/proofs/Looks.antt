@@ -111,12 +111,15 @@ truth_itself false false same = refl
 abbrev lit_made : ℕ → Bool → Lit
 lit_made v t = record { var = v; truth = t }
 
+pub lit_same : (a b : Lit) → a.var ≡ b.var → a.truth ≡ b.truth → a ≡ b
+lit_same a b var truth = ap (λ (v : ℕ). lit_made v a.truth) var ∙ ap (λ (t : Bool). lit_made b.var t) truth
+
 pub same_lit : (a b : Lit) → (eqb a.var b.var && beq a.truth b.truth) ≡ true → a ≡ b
 same_lit a b is =
     let parts = and_parts (eqb a.var b.var) (beq a.truth b.truth) is in
     let var : a.var ≡ b.var = eqb-true a.var b.var parts.0 in
     let truth : a.truth ≡ b.truth = same_truth a.truth b.truth parts.1 in
-    ap (λ (v : ℕ). lit_made v a.truth) var ∙ ap (λ (t : Bool). lit_made b.var t) truth
+    lit_same a b var truth
 
 pub other_lit : (a b : Lit) → (eqb a.var b.var && beq a.truth b.truth) ≡ false → a ≡ b → ⊥
 other_lit a b isnt same =
