@@ -1,4 +1,5 @@
-ghost use Rattle.std.specs.Prelude.{◌≡◌, ◌≢◌, ◌++◌, [], IfOk, OnErr, IsSome, Some, None, AllPairs, option_map, MatchOption, ◌≤◌, ℕ};
+ghost use Rattle.std.specs.Prelude.{◌≡◌, ◌≢◌, ◌++◌, [], IfOk, OnErr, IsSome, Some, None, AllPairs, option_map, MatchOption, ◌≤◌, ◌-◌, ◌∷◌, ℕ, List, is_some, take, length};
+ghost use Rattle.ms_nogood.specs.Keys.{FindsFrom, FindsAmong, ends};
 ghost use Rattle.ms_nogood.specs.Store.{Adds, nogood_at, kept_after, EndsSolve, AreKept, Trims};
 
 use crate::kind::Kind;
@@ -135,5 +136,69 @@ impl Nogoods {
             self.slots.try_remove(self.kept[i]);
         }
         self.kept.drain(..count);
+    }
+
+    /// The least key of at least `from`.
+    pub fn keys_from(&self, from: usize) -> Option<usize>
+        ensures { FindsFrom (λ key. is_some (nogood_at self.now key)) from result }
+    {
+        for key in from..self.end() {
+            if self.find(key).is_some() {
+                return Some(key);
+            }
+        }
+        None
+    }
+
+    /// The least key of at least `from` whose nogood `end_solve` would drop.
+    pub fn ends_from(&self, from: usize) -> Option<usize>
+        ensures { FindsFrom (λ key. ends (nogood_at self.now key)) from result }
+    {
+        for key in from..self.end() {
+            if self.ends(key) {
+                return Some(key);
+            }
+        }
+        None
+    }
+
+    /// The least key of at least `from` whose nogood `trim` would drop.
+    pub fn trims_from(&self, keep: u64, from: usize) -> Option<usize>
+        ensures { FindsAmong (take (length self.now.kept - keep) self.now.kept) from result }
+    {
+        let count = self.kept.len().saturating_sub(keep as usize);
+        let mut least = None;
+        for i in 0..count {
+            least = lesser(least, self.kept[i], from);
+        }
+        least
+    }
+
+    fn ends(&self, key: usize) -> bool
+        ensures { result ≡ ends (nogood_at self.now key) }
+    {
+        match self.slots.get(key) {
+            Some(slot) => slot.kind.ends_with_solve(),
+            None => false,
+        }
+    }
+}
+
+/// The lesser of the least key so far and this one, where this one is at least `from`.
+fn lesser(least: Option<usize>, key: usize, from: usize) -> Option<usize>
+    ensures { (seen : List ℕ) → FindsAmong seen from least → FindsAmong (seen ++ key ∷ []) from result }
+{
+    if key < from {
+        return least;
+    }
+    match least {
+        None => Some(key),
+        Some(first) => {
+            if key < first {
+                Some(key)
+            } else {
+                Some(first)
+            }
+        }
     }
 }
