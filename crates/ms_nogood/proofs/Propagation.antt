@@ -1,7 +1,7 @@
 -- What propagation assigns, step by step.
 use Rattle.std.proofs.Common.{ℕ, ◌≡◌, ◌<◌, ◌+◌, ◌≤◌, ◌⊎◌, inl, inr, zero, suc, List, [], ◌∷◌, ◌++◌, Option, Some, None, Bool, true, false, length, get_or, take, map, option_map, sym, ◌∙◌, ap, subst, arith, refl, append_assoc}
 use Rattle.std.specs.Prelude.{All, Contains, not, IsTrue}
-use Rattle.std.specs.List.{filter_map}
+use Rattle.std.specs.List.{filter_map, cons_option}
 use lib.Dec.{eqb}
 use Rattle.std.proofs.lemmas.Bool.{cases_eq, cases_lt, cond-true, cond-false, eq-eqb, ne_eqb}
 use Rattle.std.proofs.lemmas.List.{append-nil, map-append, length-append, take-append-le, take_at}
@@ -12,7 +12,7 @@ use Rattle.ms_lits.specs.declared.lit.Lit.{Lit}
 use Rattle.ms_lits.specs.declared.trail.Entry.{Entry}
 use Rattle.ms_lits.specs.Literals.{Nogood, opposite_of, IsWhole, Forces, IsClosed, IsDerived, HasWhole}
 use Rattle.ms_lits.specs.Assignment.{Assignment, entry_of, entry_made, value_in, HoldsIn, IsWholeIn, IsUnitIn}
-use Rattle.ms_nogood.specs.Store.{Store, Stored, nogood_at}
+use Rattle.ms_nogood.specs.Store.{Store, Stored, nogood_at, awake_in}
 use Rattle.ms_nogood.specs.Propagation.{literals_of, nogoods_in, lits_of, has_truth, held_in, IsForced, Propagates, IsSettled}
 use Rattle.ms_nogood.specs.Looks.{IsCalmIn, IsCalmAt}
 use Rattle.ms_nogood.proofs.Looks.{lit_same}
@@ -27,21 +27,30 @@ pub stored_read : (slot : Option Stored) (lits : Nogood) → option_map (λ (s :
 stored_read None lits is = cc
 stored_read (Some s) lits is = record { stored = s; found = refl; same = cc }
 
-stored_among : (slots : List (Option Stored)) (key : ℕ) (s : Stored) → get_or slots key None ≡ Some s → Contains (filter_map literals_of slots) s.lits
-stored_among [] key s is = cc
-stored_among (None ∷ slots) zero s is = cc
-stored_among (Some t ∷ slots) zero s is = let same : t ≡ s = cc in (0, omega arith, ap (λ (x : Stored). x.lits) same)
-stored_among (None ∷ slots) (suc key) s is = stored_among slots key s is
-stored_among (Some t ∷ slots) (suc key) s is =
-    let among = stored_among slots key s is in
+among_more : (option : Option Nogood) (nogoods : List Nogood) (nogood : Nogood) → Contains nogoods nogood → Contains (cons_option option nogoods) nogood
+among_more None nogoods nogood among = among
+among_more (Some first) nogoods nogood among =
     let k : ℕ = among.0 in
-    let lt : k < length (filter_map literals_of slots) = among.1 in
+    let lt : k < length nogoods = among.1 in
     (suc k, omega arith, among.2)
 
-all_stored : (P : Nogood → Type 0) (slots : List (Option Stored)) → ((key : ℕ) (s : Stored) → get_or slots key None ≡ Some s → P s.lits) → All P (filter_map literals_of slots)
+among_first : (nogoods : List Nogood) (nogood : Nogood) → Contains (nogood ∷ nogoods) nogood
+among_first nogoods nogood = (0, omega arith, refl)
+
+stored_among : (slots : List (Option Stored)) (key : ℕ) (s : Stored) → awake_in (get_or slots key None) ≡ Some s → Contains (filter_map literals_of slots) s.lits
+stored_among [] key s is = cc
+stored_among (slot ∷ slots) zero s is =
+    subst (λ (o : Option Nogood). Contains (cons_option o (filter_map literals_of slots)) s.lits) (sym (ap (option_map (λ (x : Stored). x.lits)) is))
+    (among_first (filter_map literals_of slots) s.lits)
+stored_among (slot ∷ slots) (suc key) s is = among_more (literals_of slot) (filter_map literals_of slots) s.lits (stored_among slots key s is)
+
+all_with : (P : Nogood → Type 0) (slot : Option Stored) (nogoods : List Nogood) → ((s : Stored) → slot ≡ Some s → P s.lits) → All P nogoods → All P (cons_option (option_map (λ (x : Stored). x.lits) slot) nogoods)
+all_with P None nogoods first rest = rest
+all_with P (Some t) nogoods first rest = All-cons P t.lits nogoods (first t refl) rest
+
+all_stored : (P : Nogood → Type 0) (slots : List (Option Stored)) → ((key : ℕ) (s : Stored) → awake_in (get_or slots key None) ≡ Some s → P s.lits) → All P (filter_map literals_of slots)
 all_stored P [] each = All-nil P
-all_stored P (None ∷ slots) each = all_stored P slots (λ key s is. each (suc key) s is)
-all_stored P (Some t ∷ slots) each = All-cons P t.lits (filter_map literals_of slots) (each 0 t refl) (all_stored P slots (λ key s is. each (suc key) s is))
+all_stored P (slot ∷ slots) each = all_with P (awake_in slot) (filter_map literals_of slots) (each 0) (all_stored P slots (λ key s is. each (suc key) s is))
 
 truth_had : (value : Option Bool) (truth : Bool) → value ≡ Some truth → has_truth value truth ≡ true
 truth_had None truth is = cc

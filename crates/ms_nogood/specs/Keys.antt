@@ -1,6 +1,6 @@
 -- The least key of some from a number on.
 use Rattle.std.specs.Prelude.{ℕ, ◌≡◌, ◌<◌, ◌≤◌, ◌⊎◌, Bool, true, false, List, Option, Some, None, All, Contains}
-use Rattle.ms_nogood.specs.Store.{Stored, ends_with_solve}
+use Rattle.ms_nogood.specs.Store.{Stored, ends_by_kind}
 
 pub record IsLeastFrom (test : ℕ → Bool) (from key : ℕ) : Type 0 where
   pub at_least : from ≤ key
@@ -25,4 +25,4 @@ FindsAmong keys from (Some least) = IsLeastAmong keys from least
 -- whether the end of a solve drops what is stored
 abbrev pub ends : Option Stored → Bool
 ends None = false
-ends (Some s) = ends_with_solve s.kind
+ends (Some s) = ends_by_kind s.kind

@@ -5,13 +5,13 @@ use Rattle.ms_lits.specs.declared.lit.Lit.{Lit}
 use Rattle.ms_lits.specs.declared.trail.Entry.{Entry}
 use Rattle.ms_lits.specs.Literals.{Nogood, opposite_of, IsClosed, IsDerived, HasWhole}
 use Rattle.ms_lits.specs.Assignment.{Assignment, value_in, IsWholeIn, IsUnitIn}
-use Rattle.ms_nogood.specs.Store.{Store, Stored, nogood_at}
+use Rattle.ms_nogood.specs.Store.{Store, Stored, nogood_at, awake_in}
 use Rattle.ms_nogood.specs.declared.scan.Scan.{Scan}
 use Rattle.ms_nogood.specs.declared.scan.Scan.TheVariants.{Closed, Violated}
 
+-- the literals of what is awake
 abbrev pub literals_of : Option Stored → Option Nogood
-literals_of None = None
-literals_of (Some s) = Some s.lits
+literals_of slot = option_map (λ s. s.lits) (awake_in slot)
 
 -- the nogoods of the store, by rising keys
 abbrev pub nogoods_in : Store → List Nogood

@@ -1,6 +1,6 @@
 ghost use Rattle.std.specs.Prelude.{◌≡◌, ◌≢◌, ◌++◌, [], IfOk, OnErr, IsSome, Some, None, AllPairs, option_map, MatchOption, ◌≤◌, ◌-◌, ◌∷◌, ℕ, List, is_some, take, length};
 ghost use Rattle.ms_nogood.specs.Keys.{FindsFrom, FindsAmong, ends};
-ghost use Rattle.ms_nogood.specs.Store.{Adds, nogood_at, kept_after, EndsSolve, AreKept, Trims};
+ghost use Rattle.ms_nogood.specs.Store.{Adds, Wakes, IsAsleepAt, slot_at, nogood_at, ends_by_kind, EndsSolve, AreKept, Trims};
 
 use crate::kind::Kind;
 use ms_lits::{Lit, OutOfMemory};
@@ -12,7 +12,8 @@ use std::marker::Model;
 #[derive(Drop)]
 struct Slot {
     lits: SmallVec<Lit, 4>,
-    kind: Kind,
+    /// None while the nogood is asleep.
+    kind: Option<Kind>,
 }
 
 impl Model for Slot {
@@ -21,6 +22,17 @@ impl Model for Slot {
     ghost Value = { Stored };
 
     ghost view = { λ s. record { lits = s.lits.items; kind = s.kind } };
+}
+
+impl Slot {
+    fn ends_with_solve(&self) -> bool
+        ensures { result ≡ ends_by_kind self.now.kind }
+    {
+        match self.kind {
+            Some(kind) => kind.ends_with_solve(),
+            None => false,
+        }
+    }
 }
 
 /// Nogoods under keys. A key keeps its nogood and its kind until it is dropped.
@@ -57,12 +69,15 @@ impl Nogoods {
     /// Adds a nogood of different variables, under a new key.
     pub fn add(&mut self, lits: &[Lit], kind: Kind) -> Result<usize, OutOfMemory>
         requires { AllPairs (λ l m. l.var ≢ m.var) lits.now }
-        ensures added { IfOk result (Adds self.old self.new lits.now kind) }
+        ensures added { IfOk result (Adds self.old self.new (record { lits = lits.now; kind = Some kind })) }
         ensures unchanged { OnErr result (self.new ≡ self.old) }
     {
         let lits = SmallVec::from_slice(self.alloc, lits)?;
         self.kept.reserve(1)?;
-        let key = self.slots.insert(Slot { lits, kind })?;
+        let key = self.slots.insert(Slot {
+            lits,
+            kind: Some(kind),
+        })?;
         if let Kind::Kept = kind {
             match self.kept.push(key) {
                 Ok(()) => (),
@@ -72,10 +87,42 @@ impl Nogoods {
         Ok(key)
     }
 
-    /// The literals of the nogood of a key.
+    /// Takes a key for the nogood of one literal. It is asleep: not in the store until it is woken.
+    pub fn hold(&mut self, lit: Lit) -> Result<usize, OutOfMemory>
+        ensures held { IfOk result (Adds self.old self.new (record { lits = lit ∷ []; kind = None })) }
+        ensures unchanged { OnErr result (self.new ≡ self.old) }
+    {
+        let mut lits = SmallVec::new(self.alloc);
+        lits.push(lit)?;
+        let key = self.slots.insert(Slot { lits, kind: None })?;
+        Ok(key)
+    }
+
+    /// Puts a nogood that is asleep into the store, with the kind Base.
+    pub fn wake(&mut self, key: usize)
+        requires { IsAsleepAt self.old key }
+        ensures { Wakes self.old self.new key }
+    {
+        if let Some(slot) = self.slots.get_mut(key) {
+            slot.kind = Some(Kind::Base);
+        }
+    }
+
+    /// Whether the nogood of a key is in the store, and not asleep.
+    pub fn awake(&self, key: usize) -> bool
+        requires { IsSome (slot_at self.now key) }
+        ensures { result ≡ is_some (nogood_at self.now key) }
+    {
+        match self.slots.get(key) {
+            Some(slot) => slot.kind.is_some(),
+            None => false,
+        }
+    }
+
+    /// The literals of the nogood of a key, asleep or not.
     pub fn get(&self, key: usize) -> &[Lit]
-        requires { IsSome (nogood_at self.now key) }
-        ensures { option_map (λ s. s.lits) (nogood_at self.now key) ≡ Some result.now }
+        requires { IsSome (slot_at self.now key) }
+        ensures { option_map (λ s. s.lits) (slot_at self.now key) ≡ Some result.now }
     {
         match self.slots.get(key) {
             Some(slot) => slot.lits.as_slice(),
@@ -83,31 +130,31 @@ impl Nogoods {
         }
     }
 
-    /// The literals of the nogood of a key, where it has one.
+    /// The literals of the nogood of a key of the store.
     pub(crate) fn find(&self, key: usize) -> Option<&[Lit]>
         ensures { MatchOption result (nogood_at self.now key ≡ None) (λ lits. option_map (λ s. s.lits) (nogood_at self.now key) ≡ Some lits.now) }
     {
         match self.slots.get(key) {
-            Some(slot) => Some(slot.lits.as_slice()),
-            None => None,
+            Some(slot) if slot.kind.is_some() => Some(slot.lits.as_slice()),
+            _ => None,
         }
     }
 
     /// A number above all keys.
     pub(crate) fn end(&self) -> usize
-        ensures { (key : ℕ) → result ≤ key → nogood_at self.now key ≡ None }
+        ensures { (key : ℕ) → result ≤ key → slot_at self.now key ≡ None }
     {
         self.slots.capacity()
     }
 
-    /// The kind of the nogood of a key.
+    /// The kind of the nogood of a key of the store.
     pub fn kind(&self, key: usize) -> Kind
         requires { IsSome (nogood_at self.now key) }
-        ensures kind { option_map (λ s. s.kind) (nogood_at self.now key) ≡ Some result }
+        ensures kind { option_map (λ s. s.kind) (slot_at self.now key) ≡ Some (Some result) }
         ensures order { AreKept self.now.slots self.now.kept }
     {
-        match self.slots.get(key) {
-            Some(slot) => slot.kind,
+        match self.slots.get(key).and_then(|slot| slot.kind) {
+            Some(kind) => kind,
             None => unreachable!(),
         }
     }
@@ -118,7 +165,7 @@ impl Nogoods {
     {
         for key in 0..self.slots.capacity() {
             let ends = match self.slots.get(key) {
-                Some(slot) => slot.kind.ends_with_solve(),
+                Some(slot) => slot.ends_with_solve(),
                 None => false,
             };
             if ends {
@@ -138,12 +185,12 @@ impl Nogoods {
         self.kept.drain(..count);
     }
 
-    /// The least key of at least `from`.
+    /// The least key of at least `from`, of the store or of a nogood asleep.
     pub fn keys_from(&self, from: usize) -> Option<usize>
-        ensures { FindsFrom (λ key. is_some (nogood_at self.now key)) from result }
+        ensures { FindsFrom (λ key. is_some (slot_at self.now key)) from result }
     {
         for key in from..self.end() {
-            if self.find(key).is_some() {
+            if self.slots.get(key).is_some() {
                 return Some(key);
             }
         }
@@ -152,7 +199,7 @@ impl Nogoods {
 
     /// The least key of at least `from` whose nogood `end_solve` would drop.
     pub fn ends_from(&self, from: usize) -> Option<usize>
-        ensures { FindsFrom (λ key. ends (nogood_at self.now key)) from result }
+        ensures { FindsFrom (λ key. ends (slot_at self.now key)) from result }
     {
         for key in from..self.end() {
             if self.ends(key) {
@@ -175,10 +222,10 @@ impl Nogoods {
     }
 
     fn ends(&self, key: usize) -> bool
-        ensures { result ≡ ends (nogood_at self.now key) }
+        ensures { result ≡ ends (slot_at self.now key) }
     {
         match self.slots.get(key) {
-            Some(slot) => slot.kind.ends_with_solve(),
+            Some(slot) => slot.ends_with_solve(),
             None => false,
         }
     }
