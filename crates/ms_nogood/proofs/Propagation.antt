@@ -1,9 +1,9 @@
 -- What propagation assigns, step by step.
 use Rattle.std.proofs.Common.{ℕ, ◌≡◌, ◌<◌, ◌+◌, ◌≤◌, ◌⊎◌, inl, inr, zero, suc, List, [], ◌∷◌, ◌++◌, Option, Some, None, Bool, true, false, length, get_or, take, map, option_map, sym, ◌∙◌, ap, subst, arith, refl, append_assoc}
-use Rattle.std.specs.Prelude.{All, Contains, not, IsTrue}
+use Rattle.std.specs.Prelude.{All, Contains, not, IsTrue, is_some}
 use Rattle.std.specs.List.{filter_map, cons_option}
 use lib.Dec.{eqb}
-use Rattle.std.proofs.lemmas.Bool.{cases_eq, cases_lt, cond-true, cond-false, eq-eqb, ne_eqb}
+use Rattle.std.proofs.lemmas.Bool.{cases_Bool, cases_eq, cases_lt, cond-true, cond-false, eq-eqb, ne_eqb}
 use Rattle.std.proofs.lemmas.List.{append-nil, map-append, length-append, take-append-le, take_at}
 use Rattle.std.proofs.Math.ListN.{get_or-append}
 use Rattle.std.proofs.Math.Seq.{get_or-append_seam}
@@ -12,8 +12,8 @@ use Rattle.ms_lits.specs.declared.lit.Lit.{Lit}
 use Rattle.ms_lits.specs.declared.trail.Entry.{Entry}
 use Rattle.ms_lits.specs.Literals.{Nogood, opposite_of, IsWhole, Forces, IsClosed, IsDerived, HasWhole}
 use Rattle.ms_lits.specs.Assignment.{Assignment, entry_of, entry_made, value_in, HoldsIn, IsWholeIn, IsUnitIn}
-use Rattle.ms_nogood.specs.Store.{Store, Stored, nogood_at, awake_in}
-use Rattle.ms_nogood.specs.Propagation.{literals_of, nogoods_in, lits_of, has_truth, held_in, IsForced, Propagates, IsSettled}
+use Rattle.ms_nogood.specs.Store.{Store, Stored, Adds, nogood_at, awake_in}
+use Rattle.ms_nogood.specs.Propagation.{literals_of, nogoods_in, lits_of, has_truth, held_in, IsForced, Propagates, IsSettled, IsWithin}
 use Rattle.ms_nogood.specs.Looks.{IsCalmIn, IsCalmAt}
 use Rattle.ms_nogood.proofs.Looks.{lit_same}
 
@@ -186,3 +186,19 @@ settled_from store entries calm =
 pub unassigned_entry : (found : Option Entry) → option_map (λ (e : Entry). e.lit.truth) found ≡ None → found ≡ None
 unassigned_entry None is = refl
 unassigned_entry (Some e) is = cc
+
+awake_same : (stored s : Stored) → awake_in (Some stored) ≡ Some s → stored ≡ s
+awake_same stored s is = elim (cases_Bool (is_some stored.kind)) [
+  | inl awake ↦ (let here : Some stored ≡ Some s = sym (cond-true (is_some stored.kind) (Some stored) None awake) ∙ is in cc)
+  | inr asleep ↦ (let here : None ≡ Some s = sym (cond-false (is_some stored.kind) (Some stored) None asleep) ∙ is in cc)
+]
+
+-- one nogood more keeps the variables below the room
+pub within_more : (old new : Store) (stored : Stored) (key room : ℕ) → Adds old new stored key → IsWithin old room → All (λ (l : Lit). l.var < room) stored.lits → IsWithin new room
+within_more old new stored key room adds within small = λ k s found. elim (cases_eq k key) [
+  | inl same ↦ (
+      let here : awake_in (Some stored) ≡ Some s = sym (ap (λ (n : ℕ). nogood_at new n) same ∙ ap awake_in adds.added) ∙ found in
+      let is : stored ≡ s = awake_same stored s here in
+      subst (λ (x : Stored). All (λ (l : Lit). l.var < room) x.lits) is small)
+  | inr other ↦ within k s (sym (ap awake_in (adds.others k other)) ∙ found)
+]

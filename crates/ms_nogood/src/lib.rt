@@ -4,6 +4,8 @@
 mod kind;
 mod nogoods;
 mod scan;
+#[cfg(test)]
+mod tests;
 mod theory;
 
 pub use kind::Kind;
