@@ -1,9 +1,8 @@
 -- The order of the kept keys, and what trimming leaves.
-use Rattle.std.proofs.Common.{ℕ, ◌≡◌, ◌<◌, ◌+◌, ◌≤◌, ◌-◌, inl, inr, List, Option, Some, None, true, false, length, get_or, take, drop, sym, ◌∙◌, ap, subst, arith}
-use Rattle.std.specs.Prelude.{All, Contains}
+use Rattle.std.proofs.Common.{ℕ, ◌≡◌, ◌<◌, ◌+◌, ◌≤◌, ◌-◌, inl, inr, List, Option, None, true, length, get_or, take, drop, sym, ◌∙◌, ap, subst, arith}
 use Rattle.std.proofs.lemmas.Bool.{cases_eq, cases_lt, both_ways}
 use Rattle.std.proofs.lemmas.List.{length-drop, get_or-drop, get_or-take, get_or_default, length-take-le}
-use Rattle.ms_nogood.specs.Store.{Stored, Store, IsStore, AreKept, holds_kept, Trims}
+use Rattle.ms_nogood.specs.Store.{Stored, Store, IsStore, holds_kept, Trims}
 
 -- The nogoods of the first kept keys are dropped, and all else is as it was.
 pub record Dropped (kept : List ℕ) (old new : List (Option Stored)) (count : ℕ) : Type 0 where
@@ -30,8 +29,8 @@ dropped_more kept old mid new i key d within read changed rest =
             rest (get_or kept k 0) other ∙ d.dropped k before)
       ];
       others = λ other absent.
-        rest other (λ same. absent i (omega arith) (sym is ∙ sym same))
-        ∙ d.others other (λ k lt here. absent k (omega arith) here);
+          rest other (λ same. absent i (omega arith) (sym is ∙ sym same))
+          ∙ d.others other (λ k lt here. absent k (omega arith) here);
     }
 
 pub trimmed_store : (old new : List (Option Stored)) (kept left : List ℕ) (count capacity room : ℕ) → IsStore old kept capacity → room ≡ capacity → count ≤ length kept → left ≡ drop count kept → Dropped kept old new count → IsStore new left room
@@ -42,33 +41,33 @@ trimmed_store old new kept left count capacity room s same below lefts d =
     let at : (i : ℕ) (e : ℕ) → get_or left i e ≡ get_or kept (count + i) e = λ i e. ap (λ xs. get_or xs i e) lefts ∙ get_or-drop count kept i e in
     record {
       ended = λ key high.
-        let free = s.ended key (omega arith) in
-        d.others key (λ k lt here.
+          let free = s.ended key (omega arith) in
+          d.others key (λ k lt here.
           both_ways (holds_kept (get_or old key None)) (ap holds_kept free)
           (ap (λ x. holds_kept (get_or old x None)) (sym here) ∙ o.all_kept k 0 (omega arith)))
-        ∙ free;
+          ∙ free;
       order = record {
         all_kept = λ i e lt.
-          let inside : count + i < length kept = omega arith in
-          let stays = d.others (get_or kept (count + i) e) (λ k early here.
+            let inside : count + i < length kept = omega arith in
+            let stays = d.others (get_or kept (count + i) e) (λ k early here.
             let k_inside : k < length kept = omega arith in
             let clash : k ≡ count + i = o.once k (count + i) e k_inside inside (sym (get_or_default kept k 0 e k_inside) ∙ here) in
             omega arith) in
-          ap (λ x. holds_kept (get_or new x None)) (at i e) ∙ ap holds_kept stays ∙ o.all_kept (count + i) e inside;
+            ap (λ x. holds_kept (get_or new x None)) (at i e) ∙ ap holds_kept stays ∙ o.all_kept (count + i) e inside;
         every_one = λ key here.
-          let stays = d.others key (λ k lt is. gone k lt (ap (λ x. holds_kept (get_or new x None)) is ∙ here)) in
-          let found = o.every_one key (ap holds_kept (sym stays) ∙ here) in
-          elim (cases_lt found.0 count) [
-            | inl early ↦ absurd (gone found.0 early (ap (λ x. holds_kept (get_or new x None)) (get_or_default kept found.0 0 key found.1 ∙ found.2) ∙ here))
-            | inr late ↦ (
-                let k : ℕ = found.0 in
-                let lt : k < length kept = found.1 in
-                let back : count + (k - count) ≡ k = omega arith in
-                (k - count, omega arith, at (k - count) key ∙ ap (λ x. get_or kept x key) back ∙ found.2))
-          ];
+            let stays = d.others key (λ k lt is. gone k lt (ap (λ x. holds_kept (get_or new x None)) is ∙ here)) in
+            let found = o.every_one key (ap holds_kept (sym stays) ∙ here) in
+            elim (cases_lt found.0 count) [
+              | inl early ↦ absurd (gone found.0 early (ap (λ x. holds_kept (get_or new x None)) (get_or_default kept found.0 0 key found.1 ∙ found.2) ∙ here))
+              | inr late ↦ (
+                  let k : ℕ = found.0 in
+                  let lt : k < length kept = found.1 in
+                  let back : count + (k - count) ≡ k = omega arith in
+                  (k - count, omega arith, at (k - count) key ∙ ap (λ x. get_or kept x key) back ∙ found.2))
+            ];
         once = λ i k e i_in k_in alike.
-          let equal : count + i ≡ count + k = o.once (count + i) (count + k) e (omega arith) (omega arith) (sym (at i e) ∙ alike ∙ at k e) in
-          omega arith;
+            let equal : count + i ≡ count + k = o.once (count + i) (count + k) e (omega arith) (omega arith) (sym (at i e) ∙ alike ∙ at k e) in
+            omega arith;
       };
     }
 
@@ -82,7 +81,7 @@ trims_made old new keep count is lefts d =
     record {
       kept = lefts ∙ ap (λ x. drop x old.kept) is;
       dropped = λ k x lt.
-        let small : k < n = omega arith in
-        ap (λ y. get_or new.slots y None) (read k x small) ∙ e.dropped k small;
+          let small : k < n = omega arith in
+          ap (λ y. get_or new.slots y None) (read k x small) ∙ e.dropped k small;
       others = λ key absent. e.others key (λ k lt here. absent (k, omega arith, read k key lt ∙ here));
     }

@@ -1,8 +1,7 @@
 -- The least of some keys, with one key more.
-use Rattle.std.proofs.Common.{ℕ, ◌≡◌, ◌<◌, ◌≤◌, ◌⊎◌, inl, inr, List, [], ◌∷◌, ◌++◌, Option, Some, None, arith}
-use Rattle.std.specs.Prelude.{All}
+use Rattle.std.proofs.Common.{ℕ, ◌<◌, ◌≤◌, ◌⊎◌, inl, inr, List, [], ◌∷◌, ◌++◌, Option, Some, None, arith}
 use Rattle.std.proofs.lemmas.List.Elements.{All-push, All-weaker, Contains-push, Contains-append_left}
-use Rattle.ms_nogood.specs.Keys.{IsLeastAmong, FindsAmong}
+use Rattle.ms_nogood.specs.Keys.{FindsAmong}
 
 abbrev Above : ℕ → ℕ → ℕ → Type 0
 Above from least key = (key < from) ⊎ (least ≤ key)
@@ -30,8 +29,8 @@ finds_lesser seen from key first large less found = record {
   among = Contains-push seen key;
   at_least = large;
   lesser = All-push (Above from key) seen key
-    (All-weaker (Above from first) (Above from key) (λ k above. elim above [ inl small ↦ inl small | inr high ↦ inr (omega arith) ]) seen found.lesser)
-    (inr (omega arith));
+      (All-weaker (Above from first) (Above from key) (λ k above. elim above [ inl small ↦ inl small | inr high ↦ inr (omega arith) ]) seen found.lesser)
+      (inr (omega arith));
 }
 
 -- a greater one

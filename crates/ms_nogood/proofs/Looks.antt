@@ -1,6 +1,6 @@
 -- What is known of a nogood with one literal more.
-use Rattle.std.proofs.Common.{ℕ, ◌≡◌, ◌<◌, ◌+◌, ◌≤◌, ◌⊎◌, inl, inr, List, [], ◌∷◌, ◌++◌, Option, Some, None, Bool, true, false, length, get_or, take, drop, sym, ◌∙◌, ap, subst, arith, option_map, refl}
-use Rattle.std.specs.Prelude.{All, Contains, not}
+use Rattle.std.proofs.Common.{ℕ, ◌≡◌, ◌⊎◌, inl, inr, List, [], ◌∷◌, ◌++◌, Some, None, Bool, true, false, take, drop, sym, ◌∙◌, ap, subst, arith, refl}
+use Rattle.std.specs.Prelude.{All, not}
 use mathlib.Core.Bool.{◌&&◌, beq}
 use Rattle.std.proofs.lemmas.Bool.{and_parts, and_from, both_ways, eqb-true, eq-eqb}
 use lib.Dec.{eqb}
@@ -10,7 +10,7 @@ use Rattle.std.proofs.lemmas.List.Elements.{All-push, All-weaker, All-contains, 
 use Rattle.ms_lits.specs.declared.lit.Lit.{Lit}
 use Rattle.ms_lits.specs.declared.trail.Entry.{Entry}
 use Rattle.ms_lits.specs.Literals.{opposite_of}
-use Rattle.ms_lits.specs.Assignment.{entry_of, value_in, HoldsIn, IsWholeIn, IsUnitIn}
+use Rattle.ms_lits.specs.Assignment.{value_in, HoldsIn, IsWholeIn, IsUnitIn}
 use Rattle.ms_nogood.specs.Looks.{IsCalmIn, IsLook}
 use Rattle.ms_nogood.specs.declared.scan.Look.{Look}
 use Rattle.ms_nogood.specs.declared.scan.Look.TheVariants.{Whole, Open, Calm}
@@ -57,14 +57,14 @@ pub calm_two : (entries : List Entry) (seen : List Lit) (first lit : Lit) → Is
 calm_two entries seen first lit unit free differ = record {
   not_whole = λ whole. unassigned_untrue entries lit free (All-last (HoldsIn entries) seen lit whole);
   closed = λ l others.
-    let P : Lit → Type 0 = λ (other : Lit). (other ≡ l) ⊎ HoldsIn entries other in
-    elim (All-last P seen lit others) [
-      | inl second ↦ elim (All-contains P seen first (All-front P seen (lit ∷ []) others) unit.contained) [
+      let P : Lit → Type 0 = λ (other : Lit). (other ≡ l) ⊎ HoldsIn entries other in
+      elim (All-last P seen lit others) [
+        | inl second ↦ elim (All-contains P seen first (All-front P seen (lit ∷ []) others) unit.contained) [
           | inl one ↦ absurd (differ (one ∙ sym second))
           | inr holds ↦ absurd (unassigned_untrue entries first unit.unassigned holds)
         ]
-      | inr holds ↦ absurd (unassigned_untrue entries lit free holds)
-    ];
+        | inr holds ↦ absurd (unassigned_untrue entries lit free holds)
+      ];
 }
 
 -- a first open literal

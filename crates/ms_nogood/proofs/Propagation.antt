@@ -1,5 +1,5 @@
 -- What propagation assigns, step by step.
-use Rattle.std.proofs.Common.{ℕ, ◌≡◌, ◌<◌, ◌+◌, ◌≤◌, ◌⊎◌, inl, inr, zero, suc, List, [], ◌∷◌, ◌++◌, Option, Some, None, Bool, true, false, length, get_or, take, map, option_map, sym, ◌∙◌, ap, subst, arith, refl, append_assoc}
+use Rattle.std.proofs.Common.{ℕ, ◌≡◌, ◌<◌, ◌≤◌, ◌⊎◌, inl, inr, zero, suc, List, [], ◌∷◌, ◌++◌, Option, Some, None, Bool, true, false, length, get_or, take, option_map, sym, ◌∙◌, ap, subst, arith, refl, append_assoc}
 use Rattle.std.specs.Prelude.{All, Contains, not, IsTrue, is_some}
 use Rattle.std.specs.List.{filter_map, cons_option}
 use lib.Dec.{eqb}
@@ -10,11 +10,11 @@ use Rattle.std.proofs.Math.Seq.{get_or-append_seam}
 use Rattle.std.proofs.lemmas.List.Elements.{All-nil, All-cons, All-head, All-tail, All-push, All-weaker, All-contains, All-same}
 use Rattle.ms_lits.specs.declared.lit.Lit.{Lit}
 use Rattle.ms_lits.specs.declared.trail.Entry.{Entry}
-use Rattle.ms_lits.specs.Literals.{Nogood, opposite_of, IsWhole, Forces, IsClosed, IsDerived, HasWhole}
-use Rattle.ms_lits.specs.Assignment.{Assignment, entry_of, entry_made, value_in, HoldsIn, IsWholeIn, IsUnitIn}
+use Rattle.ms_lits.specs.Literals.{Nogood, opposite_of, IsWhole, Forces, IsDerived}
+use Rattle.ms_lits.specs.Assignment.{Assignment, entry_of, entry_made, value_in, HoldsIn, IsUnitIn}
 use Rattle.ms_nogood.specs.Store.{Store, Stored, Adds, nogood_at, awake_in}
 use Rattle.ms_nogood.specs.Propagation.{literals_of, nogoods_in, lits_of, has_truth, held_in, IsForced, Propagates, IsSettled, IsWithin}
-use Rattle.ms_nogood.specs.Looks.{IsCalmIn, IsCalmAt}
+use Rattle.ms_nogood.specs.Looks.{IsCalmAt}
 use Rattle.ms_nogood.proofs.Looks.{lit_same}
 
 pub record Read (slot : Option Stored) (lits : Nogood) : Type 0 where
@@ -146,25 +146,25 @@ propagates_one store a b key s lit forced_lit found unit opposite is =
       unit = subst (IsUnitIn a.entries s.lits) (sym (opposite_twice lit)) unit;
     } in
     let last : D (opposite_of lit) = λ set whole closed.
-      All-contains (λ (nogood : Nogood). (l : Lit) → Forces set nogood l → IsTrue (set (opposite_of l))) (nogoods_in store) s.lits closed (stored_among store.slots key s found) lit (record {
-        contained = unit.contained;
-        others = All-weaker (λ (other : Lit). (other ≡ lit) ⊎ HoldsIn a.entries other) (λ (other : Lit). (other ≡ lit) ⊎ IsTrue (set other))
+    All-contains (λ (nogood : Nogood). (l : Lit) → Forces set nogood l → IsTrue (set (opposite_of l))) (nogoods_in store) s.lits closed (stored_among store.slots key s found) lit (record {
+      contained = unit.contained;
+      others = All-weaker (λ (other : Lit). (other ≡ lit) ⊎ HoldsIn a.entries other) (λ (other : Lit). (other ≡ lit) ⊎ IsTrue (set other))
           (λ other h. elim h [ inl same ↦ inl same | inr holds ↦ inr (held_in_set set a.entries other holds whole) ])
           s.lits unit.others;
-      }) in
+    }) in
     subst (Propagates store a) (sym (is ∙ ap (λ (l : Lit). with_entry a (entry_made l a.level (Some key))) opposite)) (record {
       level = refl;
       room = refl;
       added = e ∷ [];
       entries = refl;
       forced = λ i d low high.
-        let at : i ≡ length a.entries = omega (arith, length-append a.entries (e ∷ [])) in
-        let front : a.entries ≡ take i more = sym (take_at a.entries (e ∷ []) i (sym at)) in
-        let entry : e ≡ get_or more i d = sym (ap (λ k. get_or more k d) at ∙ get_or-append_seam a.entries e [] d) in
-        subst (λ (es : List Entry). IsForced store a.level es (get_or more i d)) front
-        (subst (λ (x : Entry). IsForced store a.level a.entries x) entry forced);
+          let at : i ≡ length a.entries = omega (arith, length-append a.entries (e ∷ [])) in
+          let front : a.entries ≡ take i more = sym (take_at a.entries (e ∷ []) i (sym at)) in
+          let entry : e ≡ get_or more i d = sym (ap (λ k. get_or more k d) at ∙ get_or-append_seam a.entries e [] d) in
+          subst (λ (es : List Entry). IsForced store a.level es (get_or more i d)) front
+          (subst (λ (x : Entry). IsForced store a.level a.entries x) entry forced);
       derived = All-same D (lits_of more) (lits_of a.entries ++ opposite_of lit ∷ []) (map-append (λ (x : Entry). x.lit) a.entries (e ∷ []))
-        (All-push D (lits_of a.entries) (opposite_of lit) (λ k d lt set whole closed. whole k d lt) last);
+          (All-push D (lits_of a.entries) (opposite_of lit) (λ k d lt set whole closed. whole k d lt) last);
     })
 
 pub settled_from : (store : Store) (entries : List Entry) → ((key : ℕ) → IsCalmAt store entries key) → IsSettled store entries
@@ -172,15 +172,15 @@ settled_from store entries calm =
     let set : Lit → Bool = held_in entries in
     record {
       closed = all_stored (λ (nogood : Nogood). (l : Lit) → Forces set nogood l → IsTrue (set (opposite_of l))) store.slots
-        (λ key s is l forces. held_from entries (opposite_of l) ((calm key s is).closed l
+          (λ key s is l forces. held_from entries (opposite_of l) ((calm key s is).closed l
           (All-weaker (λ (other : Lit). (other ≡ l) ⊎ IsTrue (set other)) (λ (other : Lit). (other ≡ l) ⊎ HoldsIn entries other)
-            (λ other h. elim h [ inl same ↦ inl same | inr held ↦ inr (holds_from entries other held) ])
-            s.lits forces.others)));
+          (λ other h. elim h [ inl same ↦ inl same | inr held ↦ inr (holds_from entries other held) ])
+          s.lits forces.others)));
       none_whole = λ w.
-        All-contains (λ (nogood : Nogood). IsWhole set nogood → ⊥) (nogoods_in store) w.nogood
-        (all_stored (λ (nogood : Nogood). IsWhole set nogood → ⊥) store.slots
+          All-contains (λ (nogood : Nogood). IsWhole set nogood → ⊥) (nogoods_in store) w.nogood
+          (all_stored (λ (nogood : Nogood). IsWhole set nogood → ⊥) store.slots
           (λ key s is whole. (calm key s is).not_whole (All-weaker (λ (other : Lit). IsTrue (set other)) (HoldsIn entries) (holds_from entries) s.lits whole)))
-        w.among w.whole;
+          w.among w.whole;
     }
 
 pub unassigned_entry : (found : Option Entry) → option_map (λ (e : Entry). e.lit.truth) found ≡ None → found ≡ None

@@ -1,5 +1,5 @@
 -- Unit propagation: what a scan of a store assigns on a trail.
-use Rattle.std.specs.Prelude.{ℕ, ◌≡◌, ◌<◌, ◌≤◌, ◌++◌, ◌∷◌, [], Bool, true, false, not, List, Option, Some, None, option_map, map, take, length, All}
+use Rattle.std.specs.Prelude.{ℕ, ◌≡◌, ◌<◌, ◌≤◌, ◌++◌, Bool, true, false, not, List, Option, Some, None, option_map, map, take, length, All}
 use Rattle.std.specs.List.{filter_map, slice_index_or}
 use Rattle.ms_lits.specs.declared.lit.Lit.{Lit}
 use Rattle.ms_lits.specs.declared.trail.Entry.{Entry}

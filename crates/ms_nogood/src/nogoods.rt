@@ -240,12 +240,6 @@ fn lesser(least: Option<usize>, key: usize, from: usize) -> Option<usize>
     }
     match least {
         None => Some(key),
-        Some(first) => {
-            if key < first {
-                Some(key)
-            } else {
-                Some(first)
-            }
-        }
+        Some(first) => { if key < first { Some(key) } else { Some(first) } }
     }
 }

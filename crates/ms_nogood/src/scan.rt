@@ -34,22 +34,10 @@ impl Look {
         ensures { (seen : Nogood) → IsLook trail.now.entries seen self → IsLook trail.now.entries (seen ++ lit ∷ []) result }
     {
         match trail.value(lit.var) {
-            Some(truth) => {
-                if truth == lit.truth {
-                    self
-                } else {
-                    Look::Calm
-                }
-            }
+            Some(truth) => { if truth == lit.truth { self } else { Look::Calm } }
             None => match self {
                 Look::Whole => Look::Open(lit),
-                Look::Open(first) => {
-                    if first == lit {
-                        self
-                    } else {
-                        Look::Calm
-                    }
-                }
+                Look::Open(first) => { if first == lit { self } else { Look::Calm } }
                 Look::Calm => Look::Calm,
             },
         }

@@ -10,18 +10,22 @@ const NOT_ZERO: Lit = Lit {
     var: 0,
     truth: false,
 };
+
 const ZERO: Lit = Lit {
     var: 0,
     truth: true,
 };
+
 const ONE: Lit = Lit {
     var: 1,
     truth: true,
 };
+
 const NOT_ONE: Lit = Lit {
     var: 1,
     truth: false,
 };
+
 const TWO: Lit = Lit {
     var: 2,
     truth: true,
@@ -98,10 +102,30 @@ fn scans(rt: HostRuntime) -> Result<(), Fail> {
     let no = Some(false);
     let rows = [
         ([None, None], Scan::Closed, [None, None, None], "nothing"),
-        ([Some(ZERO), None], Scan::Closed, [yes, no, no], "in one pass"),
-        ([Some(TWO), None], Scan::Closed, [no, yes, yes], "in two passes"),
-        ([Some(NOT_ZERO), None], Scan::Closed, [no, None, None], "false"),
-        ([Some(ZERO), Some(ONE)], Scan::Violated(0), [yes, yes, None], "whole"),
+        (
+            [Some(ZERO), None],
+            Scan::Closed,
+            [yes, no, no],
+            "in one pass",
+        ),
+        (
+            [Some(TWO), None],
+            Scan::Closed,
+            [no, yes, yes],
+            "in two passes",
+        ),
+        (
+            [Some(NOT_ZERO), None],
+            Scan::Closed,
+            [no, None, None],
+            "false",
+        ),
+        (
+            [Some(ZERO), Some(ONE)],
+            Scan::Violated(0),
+            [yes, yes, None],
+            "whole",
+        ),
     ];
     for (start, scan, values, what) in &rows {
         let mut lits = Vec::new(rt.alloc());

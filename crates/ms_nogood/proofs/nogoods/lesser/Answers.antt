@@ -1,4 +1,4 @@
-use Rattle.std.proofs.Common.{◌≡◌, ◌<◌, ◌≤◌, subst, arith}
+use Rattle.std.proofs.Common.{subst}
 use Rattle.ms_nogood.specs.Keys.{FindsAmong}
 use Rattle.ms_nogood.proofs.Keys.{finds_below, finds_first, finds_lesser, finds_same}
 use Rattle.ms_nogood.proofs.nogoods.lesser.Goals as goal

@@ -1,7 +1,7 @@
-use Rattle.std.proofs.Common.{◌≡◌, ◌<◌, ◌+◌, ◌++◌, ◌∷◌, [], length, get_or, take, drop, sym, ◌∙◌, subst, arith}
+use Rattle.std.proofs.Common.{◌+◌, ◌++◌, ◌∷◌, [], take, sym, subst}
 use Rattle.std.proofs.lemmas.List.{take_more, take_all}
 use Rattle.ms_nogood.specs.Looks.{IsLook, IsCalmIn}
-use Rattle.ms_nogood.proofs.Looks.{calm_taken, calm_front}
+use Rattle.ms_nogood.proofs.Looks.{calm_taken}
 use Rattle.ms_nogood.proofs.scan.read_nogood.Goals as goal
 
 pub loop-lit-preserved : goal.loop-lit-preserved

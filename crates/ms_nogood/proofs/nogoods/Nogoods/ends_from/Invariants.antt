@@ -1,5 +1,4 @@
 use Rattle.std.proofs.Common.{ℕ, ◌≡◌, ◌<◌, ◌≤◌, false}
-use Rattle.std.specs.Prelude.{is_some}
 use Rattle.ms_nogood.specs.Store.{slot_at}
 use Rattle.ms_nogood.specs.Keys.{ends}
 use Rattle.ms_nogood.proofs.nogoods.Nogoods.ends_from.Given as goal

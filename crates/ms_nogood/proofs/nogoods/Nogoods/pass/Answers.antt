@@ -1,4 +1,4 @@
-use Rattle.std.proofs.Common.{◌≡◌, ◌≤◌, inl, inr, length, arith, subst, sym}
+use Rattle.std.proofs.Common.{◌≡◌, inl, inr, length, arith, subst, sym}
 use Rattle.std.proofs.lemmas.Bool.{cases_lt}
 use Rattle.ms_nogood.specs.Looks.{IsCalmIn, IsCalmAt}
 use Rattle.ms_nogood.proofs.Propagation.{propagates_then, propagates_longer}
@@ -16,12 +16,12 @@ loop-key-preserved c =
     record {
       propagates = propagates_then c.args.self.now c.args.trail.now c.loop-key.trail c.visit.new.trail i.propagates v.propagates;
       calm = λ quiet key lt stored found.
-        let before : length c.loop-key.trail.entries ≡ length c.args.trail.now.entries = omega arith in
-        let after : length c.visit.new.trail.entries ≡ length c.loop-key.trail.entries = omega arith in
-        elim (cases_lt key c.loop-key.key) [
-          | inl early ↦ subst (λ es. IsCalmIn es stored.lits) (sym (v.same after)) (i.calm before key early stored found)
-          | inr late ↦ (
-              let at : c.loop-key.key ≡ key = omega arith in
-              subst (IsCalmAt c.args.self.now c.visit.new.trail.entries) at (v.calm c.if-visit.false after) stored found)
-        ];
+          let before : length c.loop-key.trail.entries ≡ length c.args.trail.now.entries = omega arith in
+          let after : length c.visit.new.trail.entries ≡ length c.loop-key.trail.entries = omega arith in
+          elim (cases_lt key c.loop-key.key) [
+            | inl early ↦ subst (λ es. IsCalmIn es stored.lits) (sym (v.same after)) (i.calm before key early stored found)
+            | inr late ↦ (
+                let at : c.loop-key.key ≡ key = omega arith in
+                subst (IsCalmAt c.args.self.now c.visit.new.trail.entries) at (v.calm c.if-visit.false after) stored found)
+          ];
     }

@@ -1,6 +1,6 @@
 use Rattle.std.proofs.Common.{◌≡◌, length, arith}
 use Rattle.std.proofs.lemmas.Grind.{common_steps}
-use Rattle.ms_nogood.proofs.Propagation.{propagates_none, propagates_then, propagates_longer, settled_from}
+use Rattle.ms_nogood.proofs.Propagation.{propagates_then, settled_from}
 use Rattle.ms_nogood.proofs.nogoods.Nogoods.scan.Goals as goal
 
 pub returns-in-Some-clause-propagates : goal.returns-in-Some-clause-propagates

@@ -1,4 +1,4 @@
-use Rattle.std.proofs.Common.{◌≡◌, ◌<◌, ◌-◌, ◌≤◌, length, drop, refl, ap, arith, sym, subst, ◌∙◌, get_or}
+use Rattle.std.proofs.Common.{◌≡◌, ◌-◌, ◌≤◌, length, drop, refl, ap, arith, subst, ◌∙◌, get_or}
 use Rattle.std.proofs.lemmas.Grind.{common_steps}
 use Rattle.ms_nogood.specs.Store.{Store, Trims}
 use Rattle.ms_nogood.proofs.Kept.{Dropped, dropped_none, dropped_more, trimmed_store, trims_made}
@@ -22,9 +22,9 @@ loop-i-preserved c =
       kept = i.kept;
       capacity = c.try_remove.ensures.capacity ∙ i.capacity;
       dropped = dropped_more c.self.inside.kept.items c.self.inside.slots.slots c.loop-i.self-inside.slots.slots c.try_remove.new.self.slots c.loop-i.i c.index.result.now i.dropped
-        (grind (arith, common_steps))
-        (c.index.ensures ∙ ap (λ v. get_or v.items c.loop-i.i c.index.result.now) i.kept)
-        u.changed u.others;
+          (grind (arith, common_steps))
+          (c.index.ensures ∙ ap (λ v. get_or v.items c.loop-i.i c.index.result.now) i.kept)
+          u.changed u.others;
     }
 
 pub invariant_of-self : goal.invariant_of-self

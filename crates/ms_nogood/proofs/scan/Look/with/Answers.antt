@@ -1,4 +1,4 @@
-use Rattle.std.proofs.Common.{◌≡◌, ◌∷◌, [], Some, sym, ◌∙◌, ap, subst}
+use Rattle.std.proofs.Common.{◌∷◌, [], Some, sym, ◌∙◌, ap, subst}
 use Rattle.ms_nogood.specs.Looks.{IsLook}
 use Rattle.ms_nogood.proofs.Looks.{look_holds, calm_false, calm_two, calm_front, unit_first, unit_same, same_truth, truth_itself, same_lit, other_lit}
 use Rattle.std.proofs.lemmas.Bool.{both_ways}
