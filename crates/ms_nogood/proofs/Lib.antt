@@ -1,0 +1,4 @@
+pub mod Kept
+pub mod Keys
+pub mod Looks
+pub mod Propagation

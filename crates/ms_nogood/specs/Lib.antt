@@ -1,0 +1,5 @@
+pub mod Store
+pub mod Keys
+pub mod Propagation
+pub mod Looks
+pub mod Theories

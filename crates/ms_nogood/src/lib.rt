@@ -1,0 +1,15 @@
+// The store of nogoods.
+#![tactic(auto)]
+
+mod kind;
+mod nogoods;
+mod scan;
+#[cfg(test)]
+mod tests;
+mod theory;
+
+pub use kind::Kind;
+pub use ms_lits::{Lit, OutOfMemory};
+pub use nogoods::Nogoods;
+pub use scan::Scan;
+pub use theory::{Theory, Verdict};
