@@ -37,7 +37,7 @@ among_more (Some first) nogoods nogood among =
 among_first : (nogoods : List Nogood) (nogood : Nogood) → Contains (nogood ∷ nogoods) nogood
 among_first nogoods nogood = (0, omega arith, refl)
 
-stored_among : (slots : List (Option Stored)) (key : ℕ) (s : Stored) → awake_in (get_or slots key None) ≡ Some s → Contains (filter_map literals_of slots) s.lits
+pub stored_among : (slots : List (Option Stored)) (key : ℕ) (s : Stored) → awake_in (get_or slots key None) ≡ Some s → Contains (filter_map literals_of slots) s.lits
 stored_among [] key s is = cc
 stored_among (slot ∷ slots) zero s is =
     subst (λ (o : Option Nogood). Contains (cons_option o (filter_map literals_of slots)) s.lits) (sym (ap (option_map (λ (x : Stored). x.lits)) is))
@@ -73,7 +73,7 @@ pub holds_from : (entries : List Entry) (lit : Lit) → IsTrue (held_in entries 
 holds_from entries lit held = had_truth (value_in entries lit.var) lit.truth held
 
 -- a set that holds the entries holds what holds in them
-held_in_set : (set : Lit → Bool) (entries : List Entry) (lit : Lit) → HoldsIn entries lit → IsWhole set (lits_of entries) → IsTrue (set lit)
+pub held_in_set : (set : Lit → Bool) (entries : List Entry) (lit : Lit) → HoldsIn entries lit → IsWhole set (lits_of entries) → IsTrue (set lit)
 held_in_set set [] lit holds whole = cc
 held_in_set set (e ∷ es) lit holds whole =
     let P : Lit → Type 0 = λ (l : Lit). IsTrue (set l) in

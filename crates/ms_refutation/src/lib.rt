@@ -5,9 +5,9 @@
 ghost use Rattle.std.specs.Prelude.{ℕ, ◌≡◌, ◌≤◌, ◌⊎◌, Bool, List, All, Contains};
 ghost use Rattle.ms_lits.specs.declared.lit.Lit.{Lit};
 ghost use Rattle.ms_lits.specs.declared.trail.Entry.{Entry};
-ghost use Rattle.ms_lits.specs.Assignment.{HoldsIn, up_to};
+ghost use Rattle.ms_lits.specs.Assignment.{Assignment, HoldsIn, IsAssignment, up_to};
 ghost use Rattle.ms_lits.specs.Literals.{HasWhole, IsContained, IsNew, IsRefuted, IsWhole, Nogood, opposite_of};
-ghost use Rattle.ms_nogood.specs.Propagation.{IsSettled, nogoods_in};
+ghost use Rattle.ms_nogood.specs.Propagation.{IsSettled, IsWholeAt, Propagates, lits_of, nogoods_in};
 ghost use Rattle.ms_nogood.specs.Store.{Store};
 ghost use Rattle.ms_refutation.specs.Sets.{AreClosedPrefixes, IsTotalSet, Resolves};
 
@@ -35,4 +35,14 @@ pub fn what_is_new_contains_none()
 /// A jump back keeps the lower levels settled.
 pub fn jumps_keep_closed_prefixes()
     ensures { (store : Store) (entries : List Entry) (present level : ℕ) → level ≤ present → AreClosedPrefixes store present entries → AreClosedPrefixes store level (up_to level entries) }
+{}
+
+/// Where a propagation ends with a whole nogood, the literals that it began with are refuted.
+pub fn a_violation_refutes()
+    ensures { (store : Store) (old new : Assignment) (key : ℕ) → Propagates store old new → IsWholeAt store new.entries key → IsRefuted (nogoods_in store) (lits_of old.entries) }
+{}
+
+/// Where a propagation ends settled, the literals that it began with aren't refuted.
+pub fn a_settled_end_refutes_nothing()
+    ensures { (store : Store) (old new : Assignment) → IsAssignment new → Propagates store old new → IsSettled store new.entries → ¬ IsRefuted (nogoods_in store) (lits_of old.entries) }
 {}
