@@ -1,0 +1,4 @@
+mod Counts
+mod Numbers
+mod Passing
+mod Walks
