@@ -1,4 +1,5 @@
 mod Counts
+mod Linked
 mod Numbers
-mod Passing
+mod Spreading
 mod Walks

@@ -48,7 +48,7 @@ pub reached_marked : (nodes : ℕ) (edges : List Edge) (start a : ℕ) (marks : 
 reached_marked nodes edges start a marks reach reaches =
     walk_kept edges marks reaches.steps start a reach.closed reaches.walk reach.marked.start_marked
 
-mark_kept : (marks : List Bool) (a b : ℕ) → b < length marks → IsTrue (mark_at marks a) → IsTrue (mark_at (set marks b true) a)
+pub mark_kept : (marks : List Bool) (a b : ℕ) → b < length marks → IsTrue (mark_at marks a) → IsTrue (mark_at (set marks b true) a)
 mark_kept marks a b lt marked =
     ⊎_elim (λ (same : a ≡ b). subst (λ x. IsTrue (mark_at (set marks b true) x)) (sym same) (get_or-set_same marks b true false lt))
     (λ (differs : a ≡ b → ⊥). get_or-set_other marks b a true false differs ∙ marked)

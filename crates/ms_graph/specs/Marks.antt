@@ -1,5 +1,5 @@
 -- Sets of nodes as flags, and the nodes that a node reaches as such a set.
-use Rattle.std.specs.Prelude.{ℕ, ◌≡◌, ◌<◌, Bool, true, false, not, IsTrue, List, All, count_by, slice_index_or, length}
+use Rattle.std.specs.Prelude.{ℕ, ◌≡◌, Bool, false, not, IsTrue, List, All, count_by, slice_index_or, length}
 use Rattle.ms_graph.specs.declared.edge.Edge.{Edge}
 use Rattle.ms_graph.specs.Components.{Reaches}
 
@@ -30,11 +30,6 @@ IsClosed edges marks = All (StaysIn marks) edges
 pub record AreReached (edges : List Edge) (start : ℕ) (marks : List Bool) : Type 0 where
   pub start_marked : IsTrue (mark_at marks start)
   pub reached : (a : ℕ) → IsTrue (mark_at marks a) → Reaches edges start a
-
--- A pass over the edges marked some nodes, or found the set closed.
-abbrev pub Progresses : Bool → List Edge → List Bool → List Bool → Type 0
-Progresses true edges old new = unmarked_count new < unmarked_count old
-Progresses false edges old new = IsClosed edges new
 
 -- exactly the nodes that the start reaches are marked
 pub record IsReach (nodes : ℕ) (edges : List Edge) (start : ℕ) (marks : List Bool) : Type 0 where

@@ -1,6 +1,7 @@
 // The strongly connected components of a graph, numbered so that no edge leads to a greater number.
 #![tactic(auto)]
 
+mod chains;
 mod edge;
 mod numbering;
 mod reach;

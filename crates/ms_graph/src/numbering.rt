@@ -2,9 +2,11 @@
 // of nodes that a node reaches, and then the first node of its component, is a key that falls along edges,
 // and the rank of a node's key is its number.
 ghost use Rattle.std.specs.Prelude.{◌≡◌, ◌<◌, ◌≤◌, ◌^◌, length, IfOk, slice_index};
+ghost use Rattle.ms_graph.specs.Chains.{AreChains};
 ghost use Rattle.ms_graph.specs.Components.{IsGraph, IsNumbering};
 ghost use Rattle.ms_graph.specs.Keys.{AreKeys, AreRanks, AreSizes, IsFirstPeer, rank};
 
+use crate::chains::Chains;
 use crate::edge::Edge;
 use crate::reach::{count, mark_reached};
 use crate::{Comps, Edges};
@@ -17,16 +19,18 @@ fn reach_sizes(
     alloc: Global,
     nodes: u32,
     edges: &[Edge],
+    chains: &Chains,
     marks: &mut [bool],
 ) -> Result<Vec<u64>, OutOfMemory>
     requires graph { IsGraph nodes edges.now }
+    requires chains { AreChains nodes edges.now chains.now.last.items chains.now.before.items }
     requires len { length marks.old ≡ nodes }
     ensures len { IfOk result (λ sizes. length sizes.items ≡ nodes) }
     ensures sizes { IfOk result (λ sizes. AreSizes nodes edges.now sizes.items) }
 {
     let mut sizes = Vec::new(alloc);
     for node in 0..nodes {
-        mark_reached(edges, node, marks);
+        mark_reached(alloc, edges, chains, node, marks)?;
         sizes.push(count(marks) as u64)?;
     }
     Ok(sizes)
@@ -50,10 +54,12 @@ fn keys(
     alloc: Global,
     nodes: u32,
     edges: &[Edge],
+    chains: &Chains,
     sizes: &[u64],
     marks: &mut [bool],
 ) -> Result<Vec<u64>, OutOfMemory>
     requires graph { IsGraph nodes edges.now }
+    requires chains { AreChains nodes edges.now chains.now.last.items chains.now.before.items }
     requires len { length marks.old ≡ nodes }
     requires sizes_len { length sizes.now ≡ nodes }
     requires sizes { AreSizes nodes edges.now sizes.now }
@@ -62,7 +68,7 @@ fn keys(
 {
     let mut keys = Vec::new(alloc);
     for node in 0..nodes {
-        mark_reached(edges, node, marks);
+        mark_reached(alloc, edges, chains, node, marks)?;
         let size = sizes[node as usize];
         let first = first_peer(marks, sizes, size);
         keys.push(size * 4_294_967_296 + first as u64)?;
@@ -104,7 +110,8 @@ pub fn components(alloc: Global, nodes: u32, edges: &Edges) -> Result<Comps, Out
 {
     let mut marks = vec![in alloc; false; nodes as usize]?;
     let edges = edges.as_slice();
-    let sizes = reach_sizes(alloc, nodes, edges, &mut marks)?;
-    let keys = keys(alloc, nodes, edges, &sizes, &mut marks)?;
+    let chains = Chains::new(alloc, nodes, edges)?;
+    let sizes = reach_sizes(alloc, nodes, edges, &chains, &mut marks)?;
+    let keys = keys(alloc, nodes, edges, &chains, &sizes, &mut marks)?;
     ranks(alloc, &keys)
 }

@@ -1,43 +1,62 @@
 // The nodes that a node reaches, as flags.
-ghost use Rattle.std.specs.Prelude.{ℕ, ◌≡◌, ◌<◌, length, MatchBool};
-ghost use Rattle.ms_graph.specs.Components.{HasEndsBelow, IsGraph};
-ghost use Rattle.ms_graph.specs.Marks.{AreReached, IsReach, LeadsOut, Progresses, StaysIn, marked_count};
+ghost use Rattle.std.specs.Prelude.{ℕ, ◌≡◌, ◌<◌, ◌≤◌, ◌∷◌, [], ◌++◌, length, IfOk, OnOk};
+ghost use Rattle.ms_graph.specs.Chains.{AreChains, IsFront, work_left};
+ghost use Rattle.ms_graph.specs.Components.{IsGraph};
+ghost use Rattle.ms_graph.specs.Marks.{AreReached, IsReach, marked_count};
 
+use crate::chains::Chains;
 use crate::edge::Edge;
+use ms_base::memory::OutOfMemory;
+use std::alloc::Global;
 
-/// Whether the edge leads from a marked node to one that isn't.
-fn leads_out(edge: Edge, marks: &[bool]) -> bool
-    requires { HasEndsBelow (length marks.now) edge }
-    ensures { MatchBool result (LeadsOut marks.now edge) (StaysIn marks.now edge) }
-{
-    marks[edge.from as usize] && !marks[edge.to as usize]
-}
-
-/// Marks the end of each edge whose start is marked, in turn, and says whether there was one to mark.
-fn pass(edges: &[Edge], marks: &mut [bool]) -> bool
-    requires { IsGraph (length marks.old) edges.now }
+/// Marks the ends of the edges from a node, and lets those wait that were not marked.
+fn spread(
+    edges: &[Edge],
+    chains: &Chains,
+    node: u32,
+    marks: &mut [bool],
+    mut pending: Vec<u32>,
+) -> Result<Vec<u32>, OutOfMemory>
+    requires graph { IsGraph (length marks.old) edges.now }
+    requires chains { AreChains (length marks.old) edges.now chains.now.last.items chains.now.before.items }
+    requires front { IsFront edges.now marks.old (pending.items ++ node ∷ []) }
     ensures reached { (start : ℕ) → AreReached edges.now start marks.old → AreReached edges.now start marks.new }
-    ensures progress { Progresses result edges.now marks.old marks.new }
+    ensures front { IfOk result (λ waiting. IsFront edges.now marks.new waiting.items) }
+    ensures shrinks { IfOk result (λ waiting. work_left marks.new waiting.items ≤ work_left marks.old pending.items) }
 {
-    let mut progress = false;
-    for edge in edges {
-        if leads_out(*edge, marks) {
-            marks[edge.to as usize] = true;
-            progress = true;
+    let mut link = chains.last[node as usize];
+    while link > 0 {
+        let end = edges[link - 1].to;
+        link = chains.before[link - 1];
+        if !marks[end as usize] {
+            marks[end as usize] = true;
+            pending.push(end)?;
         }
     }
-    progress
+    Ok(pending)
 }
 
 /// Marks exactly the nodes that the start reaches.
-pub(crate) fn mark_reached(edges: &[Edge], start: u32, marks: &mut [bool])
+pub(crate) fn mark_reached(
+    alloc: Global,
+    edges: &[Edge],
+    chains: &Chains,
+    start: u32,
+    marks: &mut [bool],
+) -> Result<(), OutOfMemory>
     requires graph { IsGraph (length marks.old) edges.now }
+    requires chains { AreChains (length marks.old) edges.now chains.now.last.items chains.now.before.items }
     requires start { start < length marks.old }
-    ensures { IsReach (length marks.old) edges.now start marks.new }
+    ensures { OnOk result (IsReach (length marks.old) edges.now start marks.new) }
 {
     marks.fill(false);
     marks[start as usize] = true;
-    while pass(edges, marks) {}
+    let mut pending = Vec::new(alloc);
+    pending.push(start)?;
+    while let Some(node) = pending.pop() {
+        pending = spread(edges, chains, node, marks, pending)?;
+    }
+    Ok(())
 }
 
 /// How many nodes are marked.
