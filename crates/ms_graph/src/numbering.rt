@@ -103,7 +103,8 @@ fn ranks(alloc: Global, keys: &[u64]) -> Result<Comps, OutOfMemory>
 
 /// A number for each node, below the number of nodes. Two nodes have equal numbers exactly where each reaches
 /// the other, and no edge leads to a greater number. The ends of edges are below the number of nodes. It
-/// fails only for want of memory.
+/// walks what each node reaches, twice, so its time grows with nodes times (nodes plus edges), and its room
+/// with nodes plus edges. It fails only for want of memory.
 pub fn components(alloc: Global, nodes: u32, edges: &Edges) -> Result<Comps, OutOfMemory>
     requires { IsGraph nodes edges.now }
     ensures { IfOk result (IsNumbering nodes edges.now) }
