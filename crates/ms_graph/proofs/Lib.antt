@@ -1,0 +1,5 @@
+mod Counts
+mod Linked
+mod Numbers
+mod Spreading
+mod Walks

@@ -1,0 +1,4 @@
+pub mod Chains
+pub mod Components
+pub mod Keys
+pub mod Marks
