@@ -9,8 +9,8 @@ use Rattle.std.specs.List.{Any, Contains, dedup, filter_map}
 use Rattle.std.specs.List.Sorted.{IsPermutation, IsSorted}
 use Rattle.std.specs.Ordering.{nat_cmp}
 use Rattle.std.specs.Prelude.{nat_eq}
-use Rattle.ms_base.specs.declared.small_rule.SmallRule.{SmallRule}
-use Rattle.ms_base.specs.Grounding.{AtomName, IsBaseOf}
+use Rattle.ms_text.specs.declared.small_rule.SmallRule.{SmallRule}
+use Rattle.ms_machine.specs.Grounding.{AtomName, IsBaseOf}
 use Rattle.ms_ground.proofs.Members.{Contains-map, Contains-from_map, Any-from_filter_map, Contains-filter_map}
 use Rattle.ms_ground.proofs.Ordered.{IsStrictlySortedBy-map}
 

@@ -7,15 +7,15 @@ use Rattle.std.proofs.lemmas.List.Sorted.{All-permutation, Contains-permutation}
 use Rattle.std.proofs.lemmas.Option.{slice_get_within}
 use Rattle.std.specs.List.{All, Any, dedup}
 use Rattle.std.specs.List.Sorted.{IsPermutation, IsSorted}
-use Rattle.ms_base.specs.declared.small_rule.SmallRule.{SmallRule}
-use Rattle.ms_base.specs.declared.ground_rule.GroundRule.{GroundRule}
-use Rattle.ms_base.specs.declared.ground_rule.GroundKind.{GroundKind}
-use Rattle.ms_base.specs.contracts.ground_rule.GroundRulePartialEq.TheImpl as derived
-use Rattle.ms_base.specs.contracts.ground_rule.GroundRuleOrd.TheImpl as order
-use Rattle.ms_base.specs.contracts.ground_rule.GroundRuleEq.TheImpl.Laws.{laws-law}
-use Rattle.ms_base.specs.contracts.ground_rule.GroundRuleOrd.TheImpl.Laws.{total-law, matches_eq-law}
-use Rattle.ms_base.specs.AnswerSets.{HasHead, IsRuleOver}
-use Rattle.ms_base.specs.Grounding.{AtomName, AreNumbers, IsBaseOf, IsGroundRule, IsModule, IsNumberedHead}
+use Rattle.ms_text.specs.declared.small_rule.SmallRule.{SmallRule}
+use Rattle.ms_join.specs.declared.ground_rule.GroundRule.{GroundRule}
+use Rattle.ms_join.specs.declared.ground_rule.GroundKind.{GroundKind}
+use Rattle.ms_join.specs.contracts.ground_rule.GroundRulePartialEq.TheImpl as derived
+use Rattle.ms_join.specs.contracts.ground_rule.GroundRuleOrd.TheImpl as order
+use Rattle.ms_join.specs.contracts.ground_rule.GroundRuleEq.TheImpl.Laws.{laws-law}
+use Rattle.ms_join.specs.contracts.ground_rule.GroundRuleOrd.TheImpl.Laws.{total-law, matches_eq-law}
+use Rattle.ms_join.specs.AnswerSets.{HasHead, IsRuleOver}
+use Rattle.ms_machine.specs.Grounding.{AtomName, AreNumbers, IsBaseOf, IsGroundRule, IsModule, IsNumberedHead}
 use Rattle.ms_ground.specs.GroundRules.{AreGroundRules}
 use Rattle.ms_ground.proofs.Ordered.{apart_from_strict}
 use Rattle.ms_ground.proofs.SameRules.{same_rule}

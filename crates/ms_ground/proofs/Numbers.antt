@@ -4,7 +4,7 @@ use Rattle.std.proofs.lemmas.List.Elements.{Contains-append_left, Contains-push,
 use Rattle.std.proofs.lemmas.Option.{slice_get_within, get_or_from_slice_get}
 use Rattle.std.specs.Prelude.{◌↔◌}
 use Rattle.std.specs.List.{Contains, slice_get}
-use Rattle.ms_base.specs.Grounding.{AtomName, AreNumbers}
+use Rattle.ms_machine.specs.Grounding.{AtomName, AreNumbers}
 use Rattle.ms_ground.specs.Numbering.{IsPlaceOf, IsSetOf}
 
 -- a number of one of the names

@@ -4,9 +4,9 @@ use Rattle.std.proofs.lemmas.List.{get_or_append_left}
 use Rattle.std.proofs.lemmas.List.Elements.{All-push, All-weaker}
 use Rattle.std.proofs.lemmas.List.Quantifiers.{Any-push}
 use Rattle.std.specs.List.{All, Any, Contains}
-use Rattle.ms_base.specs.declared.small_rule.SmallRule.{SmallRule}
-use Rattle.ms_base.specs.declared.ground_rule.GroundRule.{GroundRule}
-use Rattle.ms_base.specs.Grounding.{AtomName, IsGroundRule}
+use Rattle.ms_text.specs.declared.small_rule.SmallRule.{SmallRule}
+use Rattle.ms_join.specs.declared.ground_rule.GroundRule.{GroundRule}
+use Rattle.ms_machine.specs.Grounding.{AtomName, IsGroundRule}
 use Rattle.ms_ground.specs.GroundRules.{AreGroundRules}
 
 Any-append_left : {X : Type 0} (P : X → Type 0) (xs ys : List X) → Any P xs → Any P (xs ++ ys)

@@ -4,9 +4,9 @@ use Rattle.std.proofs.lemmas.Bool.{false≢true}
 use Rattle.std.proofs.lemmas.Slice.Eq.{bytes_eq-Decides}
 use Rattle.std.specs.Cmp.{first_so, second_so}
 use Rattle.std.specs.Option.{option_eq}
-use Rattle.ms_base.specs.declared.ground_rule.GroundRule.{GroundRule}
-use Rattle.ms_base.specs.contracts.ground_rule.GroundKind.{the_type}
-use Rattle.ms_base.specs.contracts.ground_rule.GroundRulePartialEq.TheImpl as derived
+use Rattle.ms_join.specs.declared.ground_rule.GroundRule.{GroundRule}
+use Rattle.ms_join.specs.contracts.ground_rule.GroundKind.{the_type}
+use Rattle.ms_join.specs.contracts.ground_rule.GroundRulePartialEq.TheImpl as derived
 use denote.Enum.Bare.{same_true}
 
 same_head : (x y : Option ℕ) → option_eq eqb x y ≡ true → x ≡ y

@@ -9,7 +9,7 @@ use Rattle.std.specs.Cmp.Lexicographic.{slice_cmp, texts_ties}
 use Rattle.std.specs.List.{Contains, HoldsAt, slice_get}
 use Rattle.std.specs.List.Sorted.{IsNonDecreasingBy, IsPartitionPoint, IsStrictlySortedBy}
 use Rattle.std.specs.Ordering.{is_eq, nat_cmp, ordering_index}
-use Rattle.ms_base.specs.Grounding.{AtomName}
+use Rattle.ms_machine.specs.Grounding.{AtomName}
 use Rattle.ms_ground.specs.Numbering.{IsPlaceOf}
 use Rattle.ms_ground.proofs.Ordered.{IsSorted-from_strict, not_below_itself, not_above_itself, one_place}
 

@@ -1,8 +1,8 @@
 -- The ground rules of rules, over one base.
 use Rattle.std.specs.Prelude.{List, Option, MatchOption, All, Any, Contains}
-use Rattle.ms_base.specs.declared.small_rule.SmallRule.{SmallRule}
-use Rattle.ms_base.specs.declared.ground_rule.GroundRule.{GroundRule}
-use Rattle.ms_base.specs.Grounding.{AtomName, IsGroundRule}
+use Rattle.ms_text.specs.declared.small_rule.SmallRule.{SmallRule}
+use Rattle.ms_join.specs.declared.ground_rule.GroundRule.{GroundRule}
+use Rattle.ms_machine.specs.Grounding.{AtomName, IsGroundRule}
 
 -- The ground rules of those rules whose positive atoms are all in the base, in any order and number.
 pub record AreGroundRules (names : List AtomName) (texts : List SmallRule) (rules : List GroundRule) : Type 0 where

@@ -3,7 +3,7 @@ use Rattle.std.specs.Prelude.{ℕ, ◌≡◌, ◌^◌, ◌<◌, ◌↔◌, List,
 use Rattle.std.specs.List.Sorted.{IsStrictlyIncreasing, IsStrictlySortedBy}
 use Rattle.std.specs.Ordering.{nat_cmp}
 use Rattle.std.specs.Cmp.Lexicographic.{slice_cmp}
-use Rattle.ms_base.specs.Grounding.{AtomName, AreNumbers}
+use Rattle.ms_machine.specs.Grounding.{AtomName, AreNumbers}
 
 -- The names are in term order, and there are few enough that each place is a number of 32 bits.
 pub record AreNumbered (names : List AtomName) : Type 0 where

@@ -2,17 +2,17 @@
 #![tactic(auto)]
 
 ghost use Rattle.std.specs.Prelude.{IfOk, All, length};
-ghost use Rattle.ms_base.specs.AnswerSets.{IsRuleOver};
-ghost use Rattle.ms_base.specs.Grounding.{IsBaseOf, IsModule};
+ghost use Rattle.ms_join.specs.AnswerSets.{IsRuleOver};
+ghost use Rattle.ms_machine.specs.Grounding.{IsBaseOf, IsModule};
 ghost use Rattle.ms_ground.specs.GroundRules.{AreGroundRules};
 
 mod names;
 mod rule;
 
-use ms_base::ground_rule::{GroundRule, GroundRules};
+use ms_join::ground_rule::{GroundRule, GroundRules};
 use ms_base::memory::OutOfMemory;
 use ms_base::seq::Seq;
-use ms_base::small_rule::{Names, SmallRule};
+use ms_text::small_rule::{Names, SmallRule};
 use names::Base;
 use rule::ground_rule;
 use std::alloc::Global;

@@ -1,14 +1,14 @@
 // The base: the names of its atoms, and the numbers that they give.
 ghost use Rattle.std.specs.Prelude.{◌≡◌, IfOk, map};
 ghost use Rattle.std.specs.List.{filter_map};
-ghost use Rattle.ms_base.specs.Grounding.{IsBaseOf, AreNumbers};
+ghost use Rattle.ms_machine.specs.Grounding.{IsBaseOf, AreNumbers};
 ghost use Rattle.ms_ground.specs.Numbering.{AreNumbersOfAll, IsNumberOf, IsSetOf};
 
 use ms_base::atom_id::AtomId;
-use ms_base::ground_rule::AtomIds;
+use ms_join::ground_rule::AtomIds;
 use ms_base::memory::OutOfMemory;
 use ms_base::seq::{Bytes, Seq};
-use ms_base::small_rule::{Names, SmallRule};
+use ms_text::small_rule::{Names, SmallRule};
 use std::alloc::Global;
 use std::marker::Model;
 
@@ -20,7 +20,7 @@ pub struct Base {
 
 impl Model for Base {
     ghost use Rattle.std.specs.Prelude.{List};
-    ghost use Rattle.ms_base.specs.Grounding.{AtomName};
+    ghost use Rattle.ms_machine.specs.Grounding.{AtomName};
     ghost use Rattle.ms_ground.specs.Numbering.{AreNumbered};
 
     ghost Value = { List AtomName };

@@ -1,15 +1,15 @@
 // The ground rule of one rule over a base.
 ghost use Rattle.std.specs.Prelude.{Contains, IfOk};
 ghost use Rattle.std.specs.Option.{ForSome};
-ghost use Rattle.ms_base.specs.Grounding.{IsNumberedHead};
+ghost use Rattle.ms_machine.specs.Grounding.{IsNumberedHead};
 ghost use Rattle.ms_ground.specs.GroundRules.{IsGroundRuleOrNone};
 
 use crate::names::Base;
 use ms_base::atom_id::AtomId;
-use ms_base::ground_rule::{GroundKind, GroundRule};
+use ms_join::ground_rule::{GroundKind, GroundRule};
 use ms_base::memory::OutOfMemory;
 use ms_base::seq::Bytes;
-use ms_base::small_rule::SmallRule;
+use ms_text::small_rule::SmallRule;
 use std::alloc::Global;
 
 /// The ground rule of a rule whose head is in the base, or none where a positive atom is outside it.

@@ -1,7 +1,7 @@
 use crate::ground;
-use ms_base::ground_rule::AtomIds;
+use ms_join::ground_rule::AtomIds;
 use ms_base::seq::{Bytes, Seq};
-use ms_base::small_rule::{Names, SmallRule};
+use ms_text::small_rule::{Names, SmallRule};
 use std::alloc::Global;
 use std::test::Fail;
 

@@ -4,10 +4,10 @@ use Rattle.std.specs.List.{prefix_len}
 use Rattle.std.specs.Option.{option_map}
 use Rattle.std.proofs.lemmas.Bool.{eqb-true, false≢true}
 use Rattle.std.proofs.lemmas.List.Folds.{length-prefix_len}
-use Rattle.ms_base.specs.declared.token.TokenKind.{TokenKind}
-use Rattle.ms_base.specs.declared.token.TokenKind.TheVariants.{If, Comma, Dot}
+use Rattle.ms_text.specs.declared.token.TokenKind.{TokenKind}
+use Rattle.ms_text.specs.declared.token.TokenKind.TheVariants.{If, Comma, Dot}
 use Rattle.ms_lex.specs.Names.{is_underscore}
-use Rattle.ms_base.specs.Tokens.{is_lower, is_word, is_in_line, name_len, name_token, if_token, first_token}
+use Rattle.ms_text.specs.Tokens.{is_lower, is_word, is_in_line, name_len, name_token, if_token, first_token}
 
 in_line_by : (p : ℕ → Bool) → p 10 ≡ false → (b : ℕ) → p b ≡ true → (t : Bool) → eqb b 10 ≡ t → is_in_line b ≡ true
 in_line_by p fails b passes true e = absurd (false≢true (sym fails ∙ ap p (sym (eqb-true b 10 e)) ∙ passes))

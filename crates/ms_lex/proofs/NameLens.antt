@@ -3,7 +3,7 @@ use Rattle.std.proofs.Common.{◌≡◌, ℕ, suc, ◌+◌, ◌-◌, Bool, true,
 use Rattle.std.specs.List.{prefix_len}
 use Rattle.std.specs.Option.{option_map}
 use Rattle.std.proofs.lemmas.List.{take_rest}
-use Rattle.ms_base.specs.Tokens.{is_lower, name_len}
+use Rattle.ms_text.specs.Tokens.{is_lower, name_len}
 use Rattle.ms_lex.specs.Names.{is_underscore, bare_len}
 
 -- the length of a name, by its number of underscores and the length of what follows them

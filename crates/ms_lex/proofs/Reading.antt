@@ -8,9 +8,9 @@ use Rattle.std.proofs.lemmas.List.Elements.{All-weaker, All-push}
 use Rattle.std.proofs.lemmas.List.Quantifiers.{all_pairs_push}
 use Rattle.std.proofs.lemmas.List.Sums.{prefix_len-le-length}
 use Rattle.std.proofs.lemmas.List.Folds.{length-prefix_len}
-use Rattle.ms_base.specs.declared.token.Token.{Token}
-use Rattle.ms_base.specs.declared.token.TokenKind.{TokenKind}
-use Rattle.ms_base.specs.Tokens.{is_blank, is_in_line, line_after, first_token, tokens_from, tokens_of, LieWithin}
+use Rattle.ms_text.specs.declared.token.Token.{Token}
+use Rattle.ms_text.specs.declared.token.TokenKind.{TokenKind}
+use Rattle.ms_text.specs.Tokens.{is_blank, is_in_line, line_after, first_token, tokens_from, tokens_of, LieWithin}
 use Rattle.ms_lex.proofs.Steps.{with_tokens, with_tokens-push, blank_step, comment_step, placed_step, token_step}
 
 -- The first `at` bytes of a text have been read: these are their tokens, the next byte is in this line, and

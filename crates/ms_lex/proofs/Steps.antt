@@ -1,10 +1,10 @@
 -- One step of `tokens_from` after another, from where `at` bytes have been passed over.
 use Rattle.std.proofs.Common.{◌≡◌, ℕ, zero, suc, ◌+◌, ◌-◌, ◌<◌, ◌≤◌, Bool, true, false, cond, eqb, List, [], ◌∷◌, ◌++◌, length, drop, take_while, Option, Some, Result, Ok, Err, refl, sym, ap, ◌∙◌, subst, arith, add-zero, add-one, append_assoc}
 use Rattle.std.proofs.lemmas.List.Folds.{length-prefix_len}
-use Rattle.ms_base.specs.declared.token.Token.{Token}
-use Rattle.ms_base.specs.declared.token.TokenKind.{TokenKind}
-use Rattle.ms_base.specs.declared.token.BadByte.{BadByte}
-use Rattle.ms_base.specs.Tokens.{is_blank, is_in_line, line_after, first_token, with_token, placed, tokens_from}
+use Rattle.ms_text.specs.declared.token.Token.{Token}
+use Rattle.ms_text.specs.declared.token.TokenKind.{TokenKind}
+use Rattle.ms_text.specs.declared.token.BadByte.{BadByte}
+use Rattle.ms_text.specs.Tokens.{is_blank, is_in_line, line_after, first_token, with_token, placed, tokens_from}
 use Rattle.ms_lex.proofs.InLine.{line_len, HasAtMost, token_in_line}
 
 -- these tokens, and what the rest of the text gives

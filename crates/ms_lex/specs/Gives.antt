@@ -1,7 +1,7 @@
 -- What `lex` answers, against the tokens of the text.
 use Rattle.std.specs.Prelude.{◌≡◌, ◌≤◌, List, Result, Ok, Err, ⊤}
-use Rattle.ms_base.specs.declared.token.Token.{Token}
-use Rattle.ms_base.specs.declared.token.BadByte.{BadByte}
+use Rattle.ms_text.specs.declared.token.Token.{Token}
+use Rattle.ms_text.specs.declared.token.BadByte.{BadByte}
 use Rattle.ms_lex.specs.declared.LexFault.{LexFault}
 use Rattle.ms_lex.specs.declared.LexFault.TheVariants.{BadByte as bad_byte, OutOfMemory}
 

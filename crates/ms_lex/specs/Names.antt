@@ -1,6 +1,6 @@
 -- The parts of a name: its underscores, and what follows them.
 use Rattle.std.specs.Prelude.{ℕ, suc, ◌==◌, Bool, if◌then◌else◌, List, [], ◌∷◌, length, take_while, Option, Some, None}
-use Rattle.ms_base.specs.Tokens.{is_lower, is_word}
+use Rattle.ms_text.specs.Tokens.{is_lower, is_word}
 
 abbrev pub is_underscore : ℕ → Bool
 is_underscore b = b == 95

@@ -2,9 +2,9 @@
 ghost use Rattle.std.specs.Prelude.{◌≡◌, ◌+◌, ◌^◌, ◌<◌, ◌≤◌, length, take_while, IfSome};
 ghost use Rattle.std.specs.List.{prefix_len};
 ghost use Rattle.ms_lex.specs.Names.{is_underscore, bare_len};
-ghost use Rattle.ms_base.specs.Tokens.{is_blank, is_word, is_in_line, line_after, name_len, name_kind, name_token, if_token, first_token};
+ghost use Rattle.ms_text.specs.Tokens.{is_blank, is_word, is_in_line, line_after, name_len, name_kind, name_token, if_token, first_token};
 
-use ms_base::token::TokenKind;
+use ms_text::token::TokenKind;
 
 /// Whether a byte is a tab, a line end, a carriage return or a space.
 pub(crate) fn is_blank(byte: u8) -> bool

@@ -2,7 +2,7 @@
 #![tactic(auto)]
 
 ghost use Rattle.std.specs.Prelude.{◌≡◌, length, IfOk, AllPairs};
-ghost use Rattle.ms_base.specs.Tokens.{tokens_of, LieWithin};
+ghost use Rattle.ms_text.specs.Tokens.{tokens_of, LieWithin};
 ghost use Rattle.ms_lex.specs.declared.LexFault.TheVariants.{OutOfMemory};
 ghost use Rattle.ms_lex.specs.Gives.{Gives, ComesBefore};
 
@@ -10,7 +10,7 @@ mod front;
 
 use front::{first_token, is_blank, line_after};
 pub use front::{line_len, word_len};
-pub use ms_base::token::{Token, TokenKind, Tokens};
+pub use ms_text::token::{Token, TokenKind, Tokens};
 use std::alloc::{AllocFailed, Global};
 
 /// Why a text has no tokens.

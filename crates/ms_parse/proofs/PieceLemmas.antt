@@ -2,10 +2,10 @@
 use Rattle.std.proofs.Common.{◌≡◌, ℕ, suc, ◌+◌, ◌<◌, Bool, true, false, List, [], ◌∷◌, length, take, drop, cond, ltb, refl, ap, arith, Some, None, sym, ◌∙◌, ◌==◌, take-append-drop, length-drop}
 use Rattle.std.specs.Option.{option_map_or}
 use Rattle.std.proofs.lemmas.Bool.Decides.{nat_tests}
-use Rattle.ms_base.specs.declared.token.Token.{Token}
-use Rattle.ms_base.specs.declared.token.TokenKind.{TokenKind}
-use Rattle.ms_base.specs.declared.token.TokenKind.TheVariants.{Name, Not, If, Comma, Dot}
-use Rattle.ms_base.specs.Grammar.{pieces_of, before_pieces, in_first}
+use Rattle.ms_text.specs.declared.token.Token.{Token}
+use Rattle.ms_text.specs.declared.token.TokenKind.{TokenKind}
+use Rattle.ms_text.specs.declared.token.TokenKind.TheVariants.{Name, Not, If, Comma, Dot}
+use Rattle.ms_text.specs.Grammar.{pieces_of, before_pieces, in_first}
 use Rattle.ms_parse.specs.Pieces.{is_dot, piece_len, IsFirstPiece}
 
 -- the length by how many tokens stand before the first dot, and how many there are

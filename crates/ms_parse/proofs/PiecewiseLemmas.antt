@@ -2,10 +2,10 @@
 use Rattle.std.proofs.Common.{◌≡◌, ℕ, ◌≤◌, List, [], ◌∷◌, ◌++◌, length, refl, subst, inl, inr, append-nil, append_assoc}
 use Rattle.std.proofs.lemmas.List.{drop_at}
 use Rattle.std.proofs.lemmas.List.Elements.{All-drop}
-use Rattle.ms_base.specs.declared.token.Token.{Token}
-use Rattle.ms_base.specs.declared.small_rule.SmallRule.{SmallRule}
-use Rattle.ms_base.specs.Tokens.{LieWithin}
-use Rattle.ms_base.specs.Grammar.{pieces_of, IsStatement, AreStatements, IsBadLine, first_line}
+use Rattle.ms_text.specs.declared.token.Token.{Token}
+use Rattle.ms_text.specs.declared.small_rule.SmallRule.{SmallRule}
+use Rattle.ms_text.specs.Tokens.{LieWithin}
+use Rattle.ms_text.specs.Grammar.{pieces_of, IsStatement, AreStatements, IsBadLine, first_line}
 use Rattle.ms_parse.specs.Pieces.{IsFirstPiece}
 
 -- The rules are the statements of the tokens before the rest.

@@ -1,7 +1,7 @@
 -- A draft is a whole rule after just those words that spell one.
 use Rattle.std.proofs.Common.{◌≡◌, ℕ, Bool, true, false, List, [], ◌∷◌, ◌++◌, fold, Option, Some, None, refl, ap, sym, ◌∙◌, append-nil, append_assoc}
 use Rattle.std.specs.List.{filter_map}
-use Rattle.ms_base.specs.Grammar.{Word, named, word_not, word_if, word_comma, word_dot, Literal, literal_words, body_words, SpellsRule, name_where}
+use Rattle.ms_text.specs.Grammar.{Word, named, word_not, word_if, word_comma, word_dot, Literal, literal_words, body_words, SpellsRule, name_where}
 use Rattle.ms_parse.specs.declared.draft.Draft.{Draft}
 use Rattle.ms_parse.specs.declared.draft.State.{State}
 use Rattle.ms_parse.specs.declared.draft.State.TheVariants.{Start, AfterHead, LiteralWanted, NameWanted, AfterLiteral, Done, Failed}

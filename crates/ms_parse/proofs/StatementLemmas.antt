@@ -3,9 +3,9 @@ use Rattle.std.proofs.Common.{◌≡◌, ℕ, ◌≤◌, List, map, fold, take, 
 use Rattle.std.proofs.lemmas.List.{take_all}
 use Rattle.std.proofs.lemmas.List.Folds.{fold-map}
 use Rattle.std.specs.Option.{IfSome, IfNone}
-use Rattle.ms_base.specs.declared.token.Token.{Token}
-use Rattle.ms_base.specs.declared.small_rule.SmallRule.{SmallRule}
-use Rattle.ms_base.specs.Grammar.{IsStatement, SpellsRule, word_of, first_line}
+use Rattle.ms_text.specs.declared.token.Token.{Token}
+use Rattle.ms_text.specs.declared.small_rule.SmallRule.{SmallRule}
+use Rattle.ms_text.specs.Grammar.{IsStatement, SpellsRule, word_of, first_line}
 use Rattle.ms_parse.specs.declared.draft.Draft.{Draft}
 use Rattle.ms_parse.specs.declared.draft.State.{State}
 use Rattle.ms_parse.specs.declared.draft.State.TheVariants.{Done}

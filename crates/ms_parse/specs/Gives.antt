@@ -1,8 +1,8 @@
 -- What `parse` answers, against the statements of the pieces.
 use Rattle.std.specs.Prelude.{ℕ, List, Result, Ok, Err, ⊤}
-use Rattle.ms_base.specs.declared.token.Token.{Token}
-use Rattle.ms_base.specs.declared.small_rule.SmallRule.{SmallRule}
-use Rattle.ms_base.specs.Grammar.{AreStatements, IsBadLine, pieces_of}
+use Rattle.ms_text.specs.declared.token.Token.{Token}
+use Rattle.ms_text.specs.declared.small_rule.SmallRule.{SmallRule}
+use Rattle.ms_text.specs.Grammar.{AreStatements, IsBadLine, pieces_of}
 use Rattle.ms_parse.specs.declared.ParseFault.{ParseFault}
 use Rattle.ms_parse.specs.declared.ParseFault.TheVariants.{BadStatement, OutOfMemory}
 

@@ -1,10 +1,10 @@
 -- One piece after another.
 use Rattle.std.specs.Prelude.{◌≡◌, ◌<◌, ℕ, ◌+◌, position, Bool, true, false, List, ◌∷◌, ◌++◌, length}
 use Rattle.std.specs.Option.{option_map_or}
-use Rattle.ms_base.specs.declared.token.Token.{Token}
-use Rattle.ms_base.specs.declared.token.TokenKind.{TokenKind}
-use Rattle.ms_base.specs.declared.token.TokenKind.TheVariants.{Name, Not, If, Comma, Dot}
-use Rattle.ms_base.specs.Grammar.{pieces_of}
+use Rattle.ms_text.specs.declared.token.Token.{Token}
+use Rattle.ms_text.specs.declared.token.TokenKind.{TokenKind}
+use Rattle.ms_text.specs.declared.token.TokenKind.TheVariants.{Name, Not, If, Comma, Dot}
+use Rattle.ms_text.specs.Grammar.{pieces_of}
 
 abbrev pub is_dot : TokenKind → Bool
 is_dot Dot = true

@@ -1,7 +1,7 @@
 -- How a rule is read, word by word.
 use Rattle.std.specs.Prelude.{ℕ, [], ◌∷◌, ◌++◌, Option, Some, None}
-use Rattle.ms_base.specs.declared.small_rule.SmallRule.{SmallRule}
-use Rattle.ms_base.specs.Grammar.{Word, named, word_not, word_if, word_comma, word_dot}
+use Rattle.ms_text.specs.declared.small_rule.SmallRule.{SmallRule}
+use Rattle.ms_text.specs.Grammar.{Word, named, word_not, word_if, word_comma, word_dot}
 use Rattle.ms_parse.specs.declared.draft.Draft.{Draft}
 use Rattle.ms_parse.specs.declared.draft.State.{State}
 use Rattle.ms_parse.specs.declared.draft.State.TheVariants.{Start, AfterHead, LiteralWanted, NameWanted, AfterLiteral, Done, Failed}

@@ -1,11 +1,11 @@
 // A rule as far as it was read.
 ghost use Rattle.std.specs.Prelude.{◌≡◌, ◌≤◌, length, OnOk};
-ghost use Rattle.ms_base.specs.Grammar.{word_of};
+ghost use Rattle.ms_text.specs.Grammar.{word_of};
 
 use ms_base::memory::OutOfMemory;
 use ms_base::seq::{Bytes, Seq};
-use ms_base::small_rule::{Names, SmallRule};
-use ms_base::token::{Token, TokenKind};
+use ms_text::small_rule::{Names, SmallRule};
+use ms_text::token::{Token, TokenKind};
 use std::alloc::Global;
 
 /// What the tokens of a piece were so far.

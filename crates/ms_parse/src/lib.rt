@@ -2,9 +2,9 @@
 #![tactic(auto)]
 
 ghost use Rattle.std.specs.Prelude.{length, ◌≡◌, [], MatchOption, IfOk, IfSome, IfNone, position};
-ghost use Rattle.ms_base.specs.Tokens.{LieWithin};
-ghost use Rattle.ms_base.specs.Grammar.{IsStatement, first_line};
-ghost use Rattle.ms_base.specs.declared.small_rule.SmallRule.{SmallRule};
+ghost use Rattle.ms_text.specs.Tokens.{LieWithin};
+ghost use Rattle.ms_text.specs.Grammar.{IsStatement, first_line};
+ghost use Rattle.ms_text.specs.declared.small_rule.SmallRule.{SmallRule};
 ghost use Rattle.ms_parse.specs.Gives.{Gives};
 ghost use Rattle.ms_parse.specs.Pieces.{is_dot, piece_len, IsFirstPiece};
 
@@ -13,8 +13,8 @@ mod draft;
 use crate::draft::Draft;
 use ms_base::memory::OutOfMemory;
 use ms_base::seq::Seq;
-pub use ms_base::small_rule::{Names, SmallRule, SmallRules};
-use ms_base::token::{Token, TokenKind};
+pub use ms_text::small_rule::{Names, SmallRule, SmallRules};
+use ms_text::token::{Token, TokenKind};
 use ms_lex::Tokens;
 use std::alloc::{AllocFailed, Global};
 

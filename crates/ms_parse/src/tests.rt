@@ -1,5 +1,5 @@
 ghost use Rattle.std.specs.Prelude.{IsTrue};
-ghost use Rattle.ms_base.specs.Tokens.{LieWithin};
+ghost use Rattle.ms_text.specs.Tokens.{LieWithin};
 
 use super::*;
 use std::process::Abort;

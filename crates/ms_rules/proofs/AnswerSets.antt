@@ -2,8 +2,8 @@
 use Rattle.std.proofs.Common.{◌≡◌, ◌↔◌, ℕ, Bool, true, false, IsTrue, List, [], All, length, refl, sym, subst, arith}
 use Rattle.std.proofs.lemmas.List.{ext_get_or}
 use mathlib.Core.Path.{fun_ext}
-use Rattle.ms_base.specs.declared.ground_rule.GroundRule.{GroundRule}
-use Rattle.ms_base.specs.AnswerSets.{Allows, IsAnswerSet, set_of}
+use Rattle.ms_join.specs.declared.ground_rule.GroundRule.{GroundRule}
+use Rattle.ms_join.specs.AnswerSets.{Allows, IsAnswerSet, set_of}
 use Rattle.ms_rules.specs.Flags.{flag_at}
 use Rattle.ms_rules.specs.LeastModel.{IsLeastModel}
 

@@ -7,9 +7,9 @@ use Rattle.std.proofs.lemmas.Bool.{and_parts, and_from, both_ways, cases_eq}
 use Rattle.std.proofs.lemmas.List.{get_or-set_other}
 use Rattle.std.proofs.lemmas.List.Sums.{sum_by-set}
 use Rattle.std.proofs.lemmas.Option.{MatchOption-at_some}
-use Rattle.ms_base.specs.declared.ground_rule.GroundRule.{GroundRule}
-use Rattle.ms_base.specs.declared.ground_rule.GroundKind.TheVariants.{Normal}
-use Rattle.ms_base.specs.AnswerSets.{has_all, has_none, Keeps, IsReductModel, IsRuleOver, HasHead}
+use Rattle.ms_join.specs.declared.ground_rule.GroundRule.{GroundRule}
+use Rattle.ms_join.specs.declared.ground_rule.GroundKind.TheVariants.{Normal}
+use Rattle.ms_join.specs.AnswerSets.{has_all, has_none, Keeps, IsReductModel, IsRuleOver, HasHead}
 use Rattle.ms_rules.specs.Flags.{flag_at}
 use Rattle.ms_rules.specs.LeastModel.{AsksFor, IsWithinModels, unmarked_count}
 

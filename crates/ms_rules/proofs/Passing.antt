@@ -1,8 +1,8 @@
 -- A pass over the rules, after some of them.
 use Rattle.std.proofs.Common.{◌≡◌, ◌+◌, ◌<◌, ◌≤◌, ℕ, Bool, true, List, All, length, get_or, set, take, sym, subst, arith}
 use Rattle.std.proofs.lemmas.List.Elements.{All-more}
-use Rattle.ms_base.specs.declared.ground_rule.GroundRule.{GroundRule}
-use Rattle.ms_base.specs.AnswerSets.{Keeps, IsReductModel, IsRuleOver}
+use Rattle.ms_join.specs.declared.ground_rule.GroundRule.{GroundRule}
+use Rattle.ms_join.specs.AnswerSets.{Keeps, IsReductModel, IsRuleOver}
 use Rattle.ms_rules.specs.declared.least_model.Progress.{Progress}
 use Rattle.ms_rules.specs.declared.least_model.Progress.TheVariants.{Still, Marked, Outside}
 use Rattle.ms_rules.specs.Flags.{flag_at}

@@ -1,8 +1,8 @@
 -- The least model of a reduct, as a fixed point.
 use Rattle.std.specs.Prelude.{ℕ, ◌≡◌, ◌<◌, Bool, false, not, IsTrue, List, Some, count_by}
-use Rattle.ms_base.specs.declared.ground_rule.GroundRule.{GroundRule}
-use Rattle.ms_base.specs.declared.ground_rule.GroundKind.TheVariants.{Normal}
-use Rattle.ms_base.specs.AnswerSets.{has_all, has_none, IsReductModel}
+use Rattle.ms_join.specs.declared.ground_rule.GroundRule.{GroundRule}
+use Rattle.ms_join.specs.declared.ground_rule.GroundKind.TheVariants.{Normal}
+use Rattle.ms_join.specs.AnswerSets.{has_all, has_none, IsReductModel}
 use Rattle.ms_rules.specs.declared.least_model.Progress.{Progress}
 use Rattle.ms_rules.specs.declared.least_model.Progress.TheVariants.{Still, Marked, Outside}
 use Rattle.ms_rules.specs.Flags.{flag_at}

@@ -1,13 +1,13 @@
 // The test whether a set of atoms is an answer set.
 ghost use Rattle.std.specs.Prelude.{◌≡◌, [], ◌↔◌, IsTrue, All, length};
-ghost use Rattle.ms_base.specs.AnswerSets.{Allows, IsAnswerSet, IsAtomSet, IsRuleOver, set_of};
+ghost use Rattle.ms_join.specs.AnswerSets.{Allows, IsAnswerSet, IsAtomSet, IsRuleOver, set_of};
 ghost use Rattle.ms_rules.specs.Flags.{flag_at};
 
 use crate::AtomSet;
 use crate::flags::{has_all, has_none, write_flags};
 use crate::least_model::mark_least_model;
 use crate::scratch::Scratch;
-use ms_base::ground_rule::{GroundKind, GroundRule, Rules};
+use ms_join::ground_rule::{GroundKind, GroundRule, Rules};
 
 /// Whether the rule allows the set. A constraint doesn't where its body holds.
 fn allows(rule: &GroundRule, in_set: &[bool]) -> bool

@@ -1,6 +1,6 @@
 // Sets of atoms as flags, one for each atom of the base.
 ghost use Rattle.std.specs.Prelude.{ℕ, ◌≡◌, ◌<◌, All, length};
-ghost use Rattle.ms_base.specs.AnswerSets.{has_all, has_none, set_of};
+ghost use Rattle.ms_join.specs.AnswerSets.{has_all, has_none, set_of};
 ghost use Rattle.ms_rules.specs.Flags.{flag_at};
 
 use ms_base::atom_id::AtomId;

@@ -1,12 +1,12 @@
 // The least model of the reduct of the rules by a set, as a fixed point.
 ghost use Rattle.std.specs.Prelude.{◌≡◌, All, length, MatchOption, MatchBool};
-ghost use Rattle.ms_base.specs.AnswerSets.{IsReductModel, IsRuleOver, Keeps};
+ghost use Rattle.ms_join.specs.AnswerSets.{IsReductModel, IsRuleOver, Keeps};
 ghost use Rattle.ms_rules.specs.LeastModel.{AsksFor, IsLeastModel, IsWithinModels, Progresses};
 ghost use Rattle.ms_rules.specs.Flags.{flag_at};
 
 use crate::flags::{has_all, has_none, is_marked};
 use ms_base::atom_id::AtomId;
-use ms_base::ground_rule::{GroundKind, GroundRule};
+use ms_join::ground_rule::{GroundKind, GroundRule};
 
 /// What a pass over the rules came to.
 #[derive(Drop)]

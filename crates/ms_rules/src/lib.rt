@@ -8,7 +8,7 @@ mod scratch;
 
 pub use answer_test::is_answer;
 pub use ms_base::atom_id::AtomId;
-pub use ms_base::ground_rule::{AtomIds, GroundKind, GroundRule, GroundRules, Rules};
+pub use ms_join::ground_rule::{AtomIds, GroundKind, GroundRule, GroundRules, Rules};
 pub use ms_base::memory::OutOfMemory;
 pub use scratch::Scratch;
 

@@ -1,5 +1,5 @@
 ghost use Rattle.std.specs.Prelude.{All, IfOk, ◌<◌};
-ghost use Rattle.ms_base.specs.AnswerSets.{IsAtomSet, IsRuleOver};
+ghost use Rattle.ms_join.specs.AnswerSets.{IsAtomSet, IsRuleOver};
 
 use crate::{
     AtomId, AtomIds, AtomSet, GroundKind, GroundRule, OutOfMemory, Rules, Scratch, is_answer,

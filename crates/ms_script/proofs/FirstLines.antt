@@ -5,8 +5,8 @@ use Rattle.std.proofs.lemmas.Bool.{eqb-true, true≢false, cases_lt}
 use Rattle.std.proofs.lemmas.List.{drop_min, take_more, take_min}
 use Rattle.std.proofs.lemmas.List.Folds.{length-prefix_len}
 use Rattle.std.proofs.lemmas.List.Sums.{prefix_len_stops}
-use Rattle.ms_base.specs.Tokens.{is_in_line}
-use Rattle.ms_base.specs.Script.{lines_of, in_first_line}
+use Rattle.ms_text.specs.Tokens.{is_in_line}
+use Rattle.ms_command.specs.Script.{lines_of, in_first_line}
 use Rattle.ms_script.specs.Lines.{IsFirstLine}
 
 -- how many bytes stand before the first line end

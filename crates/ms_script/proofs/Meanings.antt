@@ -1,9 +1,9 @@
 -- What a line means, by its tokens.
 use Rattle.std.proofs.Common.{◌≡◌, ℕ, List, [], ◌∷◌, Result, Ok, Err, refl, ap, ◌∙◌}
-use Rattle.ms_base.specs.declared.token.Token.{Token}
-use Rattle.ms_base.specs.declared.token.BadByte.{BadByte}
-use Rattle.ms_base.specs.Script.{Meaning, passed, is_space, skipped, meaning_of, meaning_after_spaces}
-use Rattle.ms_base.specs.Tokens.{tokens_of}
+use Rattle.ms_text.specs.declared.token.Token.{Token}
+use Rattle.ms_text.specs.declared.token.BadByte.{BadByte}
+use Rattle.ms_command.specs.Script.{Meaning, passed, is_space, skipped, meaning_of, meaning_after_spaces}
+use Rattle.ms_text.specs.Tokens.{tokens_of}
 
 -- `meaning_of` by the tokens of the line
 abbrev by_tokens : Result (List Token) BadByte → List ℕ → Meaning

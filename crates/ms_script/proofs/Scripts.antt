@@ -1,8 +1,8 @@
 -- The items of a script, line by line.
 use Rattle.std.proofs.Common.{◌≡◌, ℕ, ◌+◌, ◌-◌, ◌≤◌, List, [], ◌∷◌, length, drop, Some, None, refl, sym, ap, ◌∙◌, arith}
 use Rattle.std.proofs.lemmas.List.{drop-drop, length-drop, drop_all}
-use Rattle.ms_base.specs.declared.command.ScriptItem.{ScriptItem}
-use Rattle.ms_base.specs.Script.{Meaning, passed, opens, means, meaning_of, items_from, items_of, lines_of}
+use Rattle.ms_command.specs.declared.command.ScriptItem.{ScriptItem}
+use Rattle.ms_command.specs.Script.{Meaning, passed, opens, means, meaning_of, items_from, items_of, lines_of}
 use Rattle.ms_script.specs.Lines.{IsFirstLine}
 
 -- the items of a line that means this, and of the lines after it

@@ -2,10 +2,10 @@
 use Rattle.std.proofs.Common.{◌≡◌, ℕ, ◌+◌, ◌-◌, ◌≤◌, Bool, true, false, List, [], ◌∷◌, ◌++◌, length, take, drop, Some, None, refl, sym, ap, ◌∙◌, inl, inr, arith, append_assoc}
 use Rattle.std.proofs.lemmas.List.{drop-drop, length-drop, drop_all}
 use Rattle.std.proofs.Math.Seq.{take-add}
-use Rattle.ms_base.specs.declared.command.Command.TheVariants.{Add}
-use Rattle.ms_base.specs.declared.command.ScriptItem.{ScriptItem}
-use Rattle.ms_base.specs.declared.command.ScriptItem.TheVariants.{Command as is_command, Unfinished}
-use Rattle.ms_base.specs.Script.{ends_text, items_from, items_of, lines_of}
+use Rattle.ms_command.specs.declared.command.Command.TheVariants.{Add}
+use Rattle.ms_command.specs.declared.command.ScriptItem.{ScriptItem}
+use Rattle.ms_command.specs.declared.command.ScriptItem.TheVariants.{Command as is_command, Unfinished}
+use Rattle.ms_command.specs.Script.{ends_text, items_from, items_of, lines_of}
 use Rattle.ms_script.specs.Lines.{IsFirstLine}
 
 -- the items of a line inside a text that ends it or not, and of the lines after it

@@ -1,5 +1,5 @@
 -- What the crate finds of a line, in the words of the script's definitions.
-use Rattle.ms_base.specs.Script.{Meaning, passed, opens, means, Operand, nothing, one_name, something}
+use Rattle.ms_command.specs.Script.{Meaning, passed, opens, means, Operand, nothing, one_name, something}
 use Rattle.ms_script.specs.declared.kinds.LineKind.{LineKind}
 use Rattle.ms_script.specs.declared.kinds.LineKind.TheVariants.{Passed, OpensText, Item}
 use Rattle.ms_script.specs.declared.kinds.AfterWord.{AfterWord}

@@ -1,6 +1,6 @@
 -- The first line of a text.
 use Rattle.std.specs.Prelude.{ℕ, ◌≡◌, ◌<◌, ◌≤◌, List, [], ◌∷◌, ◌++◌, length, take, drop, ◌⊎◌}
-use Rattle.ms_base.specs.Script.{lines_of}
+use Rattle.ms_command.specs.Script.{lines_of}
 
 -- The line is the first of the text, and takes so many bytes with its line end, which the last line may lack.
 pub record IsFirstLine (text line : List ℕ) (used : ℕ) : Type 0 where

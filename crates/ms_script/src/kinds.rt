@@ -1,11 +1,11 @@
 // What a line outside a text is.
 ghost use Rattle.std.specs.Prelude.{◌≡◌, ◌≤◌, ◌↔◌, length, take_while, map, [], Ok, IfOk, IsTrue};
-ghost use Rattle.ms_base.specs.Grammar.{word_of};
-ghost use Rattle.ms_base.specs.Script.{is_space, skipped, meaning_of, meaning_after_spaces, meaning_of_command, operand_of, operand_by_words, one_name};
-ghost use Rattle.ms_base.specs.Tokens.{tokens_of, LieWithin};
+ghost use Rattle.ms_text.specs.Grammar.{word_of};
+ghost use Rattle.ms_command.specs.Script.{is_space, skipped, meaning_of, meaning_after_spaces, meaning_of_command, operand_of, operand_by_words, one_name};
+ghost use Rattle.ms_text.specs.Tokens.{tokens_of, LieWithin};
 ghost use Rattle.ms_script.specs.Kinds.{meaning_shown, operand_shown};
 
-use ms_base::command::{Command, ScriptItem};
+use ms_command::command::{Command, ScriptItem};
 use ms_base::memory::OutOfMemory;
 use ms_lex::{LexFault, Token, TokenKind, lex, word_len};
 use std::alloc::Global;

@@ -2,7 +2,7 @@
 #![tactic(auto)]
 
 ghost use Rattle.std.specs.Prelude.{◌≡◌, ◌<◌, ◌≤◌, [], ◌∷◌, length, drop, IfOk, IfSome, IfNone};
-ghost use Rattle.ms_base.specs.Script.{items_of};
+ghost use Rattle.ms_command.specs.Script.{items_of};
 
 mod kinds;
 mod lines;
@@ -10,7 +10,7 @@ mod texts;
 
 use kinds::{LineKind, line_kind};
 use lines::first_line;
-pub use ms_base::command::{Command, ScriptItem};
+pub use ms_command::command::{Command, ScriptItem};
 pub use ms_base::memory::OutOfMemory;
 use std::alloc::Global;
 use texts::next_text;

@@ -1,13 +1,13 @@
 // The text inside an `@add`.
 ghost use Rattle.std.specs.Prelude.{◌≡◌, ◌≤◌, [], ◌∷◌, length, take, take_while, drop, Some, IfOk, IfSome, IfNone};
 ghost use Rattle.std.specs.List.{list_all};
-ghost use Rattle.ms_base.specs.declared.command.Command.TheVariants.{Add};
-ghost use Rattle.ms_base.specs.declared.command.ScriptItem.TheVariants.{Command as is_command, Unfinished};
-ghost use Rattle.ms_base.specs.Script.{is_edge, skipped, ends_text, items_from, items_of, lines_of};
+ghost use Rattle.ms_command.specs.declared.command.Command.TheVariants.{Add};
+ghost use Rattle.ms_command.specs.declared.command.ScriptItem.TheVariants.{Command as is_command, Unfinished};
+ghost use Rattle.ms_command.specs.Script.{is_edge, skipped, ends_text, items_from, items_of, lines_of};
 
 use crate::NextItem;
 use crate::lines::first_line;
-use ms_base::command::{Command, ScriptItem};
+use ms_command::command::{Command, ScriptItem};
 use ms_base::memory::OutOfMemory;
 use ms_base::seq::Bytes;
 use std::alloc::Global;

@@ -9,9 +9,9 @@ use Rattle.std.proofs.lemmas.Map.Keys.{Less-from_sorted, sorted_from_all_adjacen
 use Rattle.std.proofs.lemmas.List.{get_or-map, length-map}
 use Rattle.std.proofs.lemmas.List.Elements.{Contains-get_or}
 use Rattle.std.proofs.lemmas.Option.{slice_get-get_or, get_or_from_slice_get}
-use Rattle.ms_base.specs.AnswerSets.{IsAtomSet}
-use Rattle.ms_base.specs.Grounding.{AtomName}
-use Rattle.ms_base.specs.Listing.{IsShownList}
+use Rattle.ms_join.specs.AnswerSets.{IsAtomSet}
+use Rattle.ms_machine.specs.Grounding.{AtomName}
+use Rattle.ms_machine.specs.Listing.{IsShownList}
 
 abbrev pub name_at : List AtomName → ℕ → AtomName
 name_at names a = get_or names a []

@@ -1,7 +1,7 @@
 -- What reading a text answers, against the grammar.
 use Rattle.std.specs.Prelude.{ℕ, List, Result, Ok, Err, ⊤}
-use Rattle.ms_base.specs.declared.small_rule.SmallRule.{SmallRule}
-use Rattle.ms_base.specs.Grammar.{Reads, IsNoText}
+use Rattle.ms_text.specs.declared.small_rule.SmallRule.{SmallRule}
+use Rattle.ms_text.specs.Grammar.{Reads, IsNoText}
 use Rattle.ms_session.specs.declared.text.TextFault.{TextFault}
 use Rattle.ms_session.specs.declared.text.TextFault.TheVariants.{Syntax, OutOfMemory}
 

@@ -1,11 +1,11 @@
 ghost use Rattle.std.specs.Prelude.{◌≡◌, ℕ, ◌∷◌, ◌++◌, take, OnOk, OnErr};
 ghost use Rattle.std.specs.Fmt.{decimal};
 ghost use Rattle.std.specs.List.{flat_map};
-ghost use Rattle.ms_base.specs.Replies.{answer_line, ending_line, line, refusal_line, reply_text};
-ghost use Rattle.ms_base.specs.declared.reply.Reply.TheVariants.{Grounded, Solved};
+ghost use Rattle.ms_machine.specs.Replies.{answer_line, ending_line, line, refusal_line, reply_text};
+ghost use Rattle.ms_machine.specs.declared.reply.Reply.TheVariants.{Grounded, Solved};
 
 use ms_base::memory::OutOfMemory;
-use ms_base::reply::{Ending, Refusal, Reply};
+use ms_machine::reply::{Ending, Refusal, Reply};
 use ms_base::seq::{Bytes, Seq};
 
 /// Appends the text of a reply. Where there is no memory for it, a front of it was appended, or nothing.

@@ -1,15 +1,15 @@
 ghost use Rattle.std.specs.Prelude.{◌≡◌, IfOk, OnErr};
-ghost use Rattle.ms_base.specs.declared.command.Command.TheVariants.{Add, Ground, Solve};
-ghost use Rattle.ms_base.specs.Machine.{Step, start};
+ghost use Rattle.ms_command.specs.declared.command.Command.TheVariants.{Add, Ground, Solve};
+ghost use Rattle.ms_machine.specs.Machine.{Step, start};
 
 use crate::shown::listing;
 use crate::text::{TextFault, read};
-use ms_base::command::Command;
-use ms_base::ground_rule::Rules;
+use ms_command::command::Command;
+use ms_join::ground_rule::Rules;
 use ms_base::memory::OutOfMemory;
-use ms_base::reply::{Refusal, Reply};
+use ms_machine::reply::{Refusal, Reply};
 use ms_base::seq::Seq;
-use ms_base::small_rule::{Names, SmallRule};
+use ms_text::small_rule::{Names, SmallRule};
 use ms_ground::ground;
 use ms_subsets::answer_sets;
 use std::alloc::Global;
@@ -31,7 +31,7 @@ pub struct Session {
 }
 
 impl Model for Session {
-    ghost use Rattle.ms_base.specs.Machine.{State};
+    ghost use Rattle.ms_machine.specs.Machine.{State};
     ghost use Rattle.ms_session.specs.Sound.{IsSound};
 
     ghost Value = { State };

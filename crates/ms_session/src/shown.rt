@@ -2,12 +2,12 @@ ghost use Rattle.std.specs.Prelude.{◌≡◌, ◌<◌, IfOk, All, length, map};
 ghost use Rattle.std.specs.List.Sorted.{IsStrictlySortedBy};
 ghost use Rattle.std.specs.Ordering.{nat_cmp};
 ghost use Rattle.std.specs.Cmp.Lexicographic.{slice_cmp};
-ghost use Rattle.ms_base.specs.AnswerSets.{IsAtomSet};
-ghost use Rattle.ms_base.specs.Listing.{IsListing, IsShownList};
+ghost use Rattle.ms_join.specs.AnswerSets.{IsAtomSet};
+ghost use Rattle.ms_machine.specs.Listing.{IsListing, IsShownList};
 ghost use Rattle.ms_session.specs.ShownLists.{AreShownLists};
 
 use ms_base::memory::OutOfMemory;
-use ms_base::reply::Shown;
+use ms_machine::reply::Shown;
 use ms_base::seq::{Bytes, Seq};
 use ms_rules::AtomSet;
 use std::alloc::Global;

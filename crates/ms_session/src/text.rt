@@ -1,6 +1,6 @@
 ghost use Rattle.ms_session.specs.ReadText.{ReadsAs};
 
-use ms_base::small_rule::SmallRules;
+use ms_text::small_rule::SmallRules;
 use ms_lex::{LexFault, lex};
 use ms_parse::{ParseFault, parse};
 use std::alloc::Global;

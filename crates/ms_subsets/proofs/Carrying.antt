@@ -5,7 +5,7 @@ use Rattle.std.specs.List.Sorted.{IsStrictlyIncreasing}
 use Rattle.std.proofs.lemmas.Grind.{pow_more}
 use Rattle.std.proofs.lemmas.List.Elements.{All-push, All-weaker}
 use Rattle.std.proofs.lemmas.List.Sums.{sum_by_push}
-use Rattle.ms_base.specs.AnswerSets.{IsAtomSet}
+use Rattle.ms_join.specs.AnswerSets.{IsAtomSet}
 use Rattle.ms_subsets.specs.Subsets.{place_of}
 use Rattle.ms_subsets.proofs.Rising.{below_last, below_unless_last, front_and_last, IsStrictlyIncreasing-front, IsStrictlyIncreasing-push}
 

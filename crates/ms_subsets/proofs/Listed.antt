@@ -7,10 +7,10 @@ use Rattle.std.proofs.lemmas.List.{length_push}
 use Rattle.std.proofs.lemmas.Option.{MatchOption-at_some}
 use Rattle.std.proofs.lemmas.List.Elements.{All-push, All-weaker, All-nil, Contains-push, Contains-append_left}
 use Rattle.std.proofs.lemmas.List.Quantifiers.{all_pairs_push}
-use Rattle.ms_base.specs.declared.reply.Ending.TheVariants.{Complete}
-use Rattle.ms_base.specs.declared.ground_rule.GroundRule.{GroundRule}
-use Rattle.ms_base.specs.AnswerSets.{IsAtomSet}
-use Rattle.ms_base.specs.Listing.{IsAnswer, AreAllAnswers, EndsAs}
+use Rattle.ms_machine.specs.declared.reply.Ending.TheVariants.{Complete}
+use Rattle.ms_join.specs.declared.ground_rule.GroundRule.{GroundRule}
+use Rattle.ms_join.specs.AnswerSets.{IsAtomSet}
+use Rattle.ms_machine.specs.Listing.{IsAnswer, AreAllAnswers, EndsAs}
 use Rattle.ms_subsets.specs.Subsets.{place_of, tried_before, KeepsAnswer}
 use Rattle.ms_subsets.proofs.Places.{place_below, same_from_place}
 

@@ -6,7 +6,7 @@ use Rattle.std.proofs.lemmas.Grind.{pow_more}
 use Rattle.std.proofs.lemmas.List.Kept.{AllPairs-from_increasing}
 use Rattle.std.proofs.lemmas.List.Sums.{sum_by-cons}
 use Rattle.std.proofs.lemmas.Nat.{pow_pos, pow_below}
-use Rattle.ms_base.specs.AnswerSets.{IsAtomSet}
+use Rattle.ms_join.specs.AnswerSets.{IsAtomSet}
 use Rattle.ms_subsets.specs.Subsets.{place_of}
 
 -- numbers that rise from `start` on, below n

@@ -1,7 +1,7 @@
 -- The sets of the atoms below n, in an order.
 use Rattle.std.specs.Prelude.{ℕ, ◌≡◌, ◌+◌, ◌-◌, ◌^◌, ◌++◌, ◌∷◌, [], List, Option, Some, None, sum_by, ◌⊎◌}
-use Rattle.ms_base.specs.declared.ground_rule.GroundRule.{GroundRule}
-use Rattle.ms_base.specs.Listing.{IsAnswer}
+use Rattle.ms_join.specs.declared.ground_rule.GroundRule.{GroundRule}
+use Rattle.ms_machine.specs.Listing.{IsAnswer}
 
 -- The place of a set: the binary number that has a digit for each atom, the last atom's at its end.
 abbrev pub place_of : ℕ → List ℕ → ℕ

@@ -2,13 +2,13 @@
 #![tactic(auto)]
 
 ghost use Rattle.std.specs.Prelude.{[], ◌≡◌, IfOk, OnOk, All};
-ghost use Rattle.ms_base.specs.AnswerSets.{IsAtomSet, IsRuleOver};
-ghost use Rattle.ms_base.specs.Listing.{AreAnswers, EndsAs};
+ghost use Rattle.ms_join.specs.AnswerSets.{IsAtomSet, IsRuleOver};
+ghost use Rattle.ms_machine.specs.Listing.{AreAnswers, EndsAs};
 ghost use Rattle.ms_subsets.specs.Subsets.{KeepsAnswer};
 
 mod subsets;
 
-use ms_base::reply::Ending;
+use ms_machine::reply::Ending;
 use ms_base::seq::Seq;
 use ms_rules::{AtomSet, OutOfMemory, Rules, Scratch, is_answer};
 use std::alloc::Global;

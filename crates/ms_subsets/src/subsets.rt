@@ -1,6 +1,6 @@
 // The sets of atoms of a base, one after another.
 ghost use Rattle.std.specs.Prelude.{◌≡◌, ◌↔◌, ◌+◌, ◌-◌, IfOk, IfSome, IsTrue, length, slice_get};
-ghost use Rattle.ms_base.specs.AnswerSets.{IsAtomSet};
+ghost use Rattle.ms_join.specs.AnswerSets.{IsAtomSet};
 ghost use Rattle.ms_subsets.specs.Subsets.{place_of, tried_before};
 
 use ms_base::seq::Seq;

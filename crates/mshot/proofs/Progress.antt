@@ -4,11 +4,11 @@ use Rattle.std.specs.List.{list_any}
 use Rattle.std.proofs.lemmas.List.{append-nil}
 use Rattle.std.proofs.Math.Seq.{take-length, take-append-add}
 use Rattle.std.proofs.Math.Bool.{or-false, or_assoc}
-use Rattle.ms_base.specs.declared.command.ScriptItem.{ScriptItem}
-use Rattle.ms_base.specs.declared.reply.Reply.{Reply}
-use Rattle.ms_base.specs.Script.{items_of}
-use Rattle.ms_base.specs.Machine.{State, Takes, Run, start}
-use Rattle.ms_base.specs.Replies.{replies_text, reply_text, is_refused}
+use Rattle.ms_command.specs.declared.command.ScriptItem.{ScriptItem}
+use Rattle.ms_machine.specs.declared.reply.Reply.{Reply}
+use Rattle.ms_command.specs.Script.{items_of}
+use Rattle.ms_machine.specs.Machine.{State, Takes, Run, start}
+use Rattle.ms_machine.specs.Replies.{replies_text, reply_text, is_refused}
 use Rattle.mshot.specs.Outcome.{WritesReplies, WritesFront, WritesFrontOf}
 
 -- a run goes on by one item

@@ -1,11 +1,11 @@
 -- What a call leaves written and read, for each status.
 use Rattle.std.specs.Prelude.{ℕ, ◌≡◌, ◌<◌, ◌≤◌, ◌+◌, Bool, true, false, List, [], ◌++◌, length, take, drop, Option, Some}
 use Rattle.std.specs.List.{list_any}
-use Rattle.ms_base.specs.declared.command.ScriptItem.{ScriptItem}
-use Rattle.ms_base.specs.declared.reply.Reply.{Reply}
-use Rattle.ms_base.specs.Script.{items_of}
-use Rattle.ms_base.specs.Machine.{State, Run, start}
-use Rattle.ms_base.specs.Replies.{replies_text, is_refused}
+use Rattle.ms_command.specs.declared.command.ScriptItem.{ScriptItem}
+use Rattle.ms_machine.specs.declared.reply.Reply.{Reply}
+use Rattle.ms_command.specs.Script.{items_of}
+use Rattle.ms_machine.specs.Machine.{State, Run, start}
+use Rattle.ms_machine.specs.Replies.{replies_text, is_refused}
 use Rattle.mshot.specs.declared.status.Status.{Status}
 use Rattle.mshot.specs.declared.status.Status.TheVariants.{Done, SomeRefused, Usage, ReadFault, WriteFault, LogFault, TooLong, NoMemory}
 use Rattle.mshot.specs.Input.{most_bytes, IsRestOf}

@@ -1,12 +1,12 @@
 ghost use Rattle.std.specs.Prelude.{◌≡◌, ℕ, ◌≤◌, ◌++◌, List, Some, IfOk, OnOk, OnErr, take};
-ghost use Rattle.ms_base.specs.Machine.{Takes};
-ghost use Rattle.ms_base.specs.Replies.{is_refused, reply_text};
+ghost use Rattle.ms_machine.specs.Machine.{Takes};
+ghost use Rattle.ms_machine.specs.Replies.{is_refused, reply_text};
 ghost use Rattle.ms_io.specs.Faults.{Rose};
 ghost use Rattle.mshot.specs.Outcome.{IsAfterReading, Writes, WritesFrontOf};
 
 use crate::status::Status;
 use ms_base::memory::OutOfMemory;
-use ms_base::reply::{Refusal, Reply};
+use ms_machine::reply::{Refusal, Reply};
 use ms_io::Sink;
 use ms_script::{NextItem, ScriptItem, next_item};
 use ms_session::{Session, print};

@@ -1,6 +1,6 @@
 use Rattle.std.proofs.Common.{◌∙◌}
 use Rattle.std.proofs.lemmas.List.Filters.{dedup_is}
-use Rattle.ms_base.specs.Grounding.{IsModule}
+use Rattle.ms_machine.specs.Grounding.{IsModule}
 use Rattle.ms_ground.proofs.Modules.{IsModule-from_rules, over_base}
 use Rattle.ms_ground.proofs.ground.Goals as goal
 use Rattle.ms_ground.proofs.ground.Goals.{After-from_vec}

@@ -1,5 +1,5 @@
 use Rattle.std.proofs.Common.{◌≡◌, fold, take}
-use Rattle.ms_base.specs.Grammar.{word_of}
+use Rattle.ms_text.specs.Grammar.{word_of}
 use Rattle.ms_parse.specs.Reading.{at_start, after_word}
 use Rattle.ms_parse.proofs.read_rule.Given as goal
 

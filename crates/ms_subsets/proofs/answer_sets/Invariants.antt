@@ -1,6 +1,6 @@
 use Rattle.std.proofs.Common.{◌≡◌, ◌-◌, ◌^◌, ◌≤◌, length}
 use Rattle.std.specs.Prelude.{IfSome}
-use Rattle.ms_base.specs.AnswerSets.{IsAtomSet}
+use Rattle.ms_join.specs.AnswerSets.{IsAtomSet}
 use Rattle.ms_subsets.specs.Subsets.{tried_before}
 use Rattle.ms_subsets.proofs.Listed.{IsListed}
 use Rattle.ms_subsets.proofs.answer_sets.Given as goal

@@ -1,5 +1,5 @@
 use Rattle.std.proofs.Common.{ℕ, ◌≡◌, take}
-use Rattle.ms_base.specs.AnswerSets.{set_of}
+use Rattle.ms_join.specs.AnswerSets.{set_of}
 use Rattle.ms_rules.specs.Flags.{flag_at}
 use Rattle.ms_rules.proofs.flags.write_flags.Given as goal
 

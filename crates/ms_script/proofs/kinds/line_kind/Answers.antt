@@ -1,7 +1,7 @@
 use Rattle.std.proofs.Common.{◌≡◌, sym, ap, ◌∙◌}
 use Rattle.std.proofs.lemmas.Bool.{false≢true}
 use Rattle.std.proofs.lemmas.Result.{IfOk-weaker}
-use Rattle.ms_base.specs.Script.{meaning_of, meaning_after_spaces}
+use Rattle.ms_command.specs.Script.{meaning_of, meaning_after_spaces}
 use Rattle.ms_script.specs.Kinds.{meaning_shown}
 use Rattle.ms_script.proofs.Meanings.{meaning_of-passed, meaning_of-shown}
 use Rattle.ms_script.proofs.kinds.line_kind.Goals as goal

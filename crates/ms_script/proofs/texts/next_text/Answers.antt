@@ -1,6 +1,6 @@
 use Rattle.std.proofs.Common.{◌∷◌, length, ap, sym, ◌∙◌, arith}
 use Rattle.std.proofs.lemmas.List.{drop_all}
-use Rattle.ms_base.specs.declared.command.ScriptItem.TheVariants.{Unfinished}
+use Rattle.ms_command.specs.declared.command.ScriptItem.TheVariants.{Unfinished}
 use Rattle.ms_script.proofs.Scripts.{items_of-none}
 use Rattle.ms_script.proofs.texts.next_text.Goals as goal
 

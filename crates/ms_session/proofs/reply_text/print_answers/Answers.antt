@@ -1,6 +1,6 @@
 use Rattle.std.proofs.Common.{◌≡◌, get_or}
 use Rattle.std.proofs.lemmas.Result.{err_from_is_err_and}
-use Rattle.ms_base.specs.Replies.{answer_line}
+use Rattle.ms_machine.specs.Replies.{answer_line}
 use Rattle.ms_session.proofs.Fronts.{front_of_items}
 use Rattle.ms_session.proofs.reply_text.print_answers.Goals as goal
 

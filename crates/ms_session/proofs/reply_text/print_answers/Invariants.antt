@@ -1,6 +1,6 @@
 use Rattle.std.proofs.Common.{◌≡◌, ◌++◌, take}
 use Rattle.std.specs.List.{flat_map}
-use Rattle.ms_base.specs.Replies.{answer_line}
+use Rattle.ms_machine.specs.Replies.{answer_line}
 use Rattle.ms_session.proofs.reply_text.print_answers.Given as goal
 
 -- the answer sets so far have their lines

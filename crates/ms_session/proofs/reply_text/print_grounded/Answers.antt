@@ -1,8 +1,8 @@
 use Rattle.std.proofs.Common.{◌≡◌, ◌++◌, ap, ◌∙◌}
 use Rattle.std.proofs.lemmas.List.{append_assoc}
 use Rattle.std.proofs.lemmas.Result.{on_ok_weaker}
-use Rattle.ms_base.specs.Replies.{reply_text}
-use Rattle.ms_base.specs.declared.reply.Reply.TheVariants.{Grounded}
+use Rattle.ms_machine.specs.Replies.{reply_text}
+use Rattle.ms_machine.specs.declared.reply.Reply.TheVariants.{Grounded}
 use Rattle.ms_session.proofs.reply_text.print_grounded.Goals as goal
 
 pub returns-clause-ok : goal.returns-clause-ok

@@ -1,7 +1,7 @@
 use Rattle.std.proofs.Common.{◌∙◌}
 use Rattle.std.proofs.lemmas.Result.{err_from_is_err_and, on_err_weaker}
 use Rattle.std.specs.List.{flat_map}
-use Rattle.ms_base.specs.Replies.{answer_line, ending_line}
+use Rattle.ms_machine.specs.Replies.{answer_line, ending_line}
 use Rattle.ms_session.proofs.Fronts.{front-before, front_all}
 use Rattle.ms_session.proofs.reply_text.print_solved.Goals as goal
 

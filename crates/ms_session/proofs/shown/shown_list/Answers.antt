@@ -1,6 +1,6 @@
 use Rattle.std.proofs.Common.{◌≡◌, map, subst, sym, arith}
 use Rattle.std.proofs.lemmas.Grind.{common_steps}
-use Rattle.ms_base.specs.Listing.{IsShownList}
+use Rattle.ms_machine.specs.Listing.{IsShownList}
 use Rattle.ms_session.proofs.ShownLists.{name_at, shown_is}
 use Rattle.ms_session.proofs.shown.shown_list.Goals as goal
 

@@ -1,9 +1,9 @@
 use Rattle.std.proofs.Common.{◌≡◌, ◌<◌, ◌+◌, ◌∙◌, ℕ, List, [], ◌∷◌, ◌++◌, length, take, get_or, sym, subst, ap, arith}
 use Rattle.std.proofs.lemmas.List.{take_more}
 use Rattle.std.proofs.lemmas.List.Elements.{All-get_or}
-use Rattle.ms_base.specs.AnswerSets.{IsAtomSet}
-use Rattle.ms_base.specs.Grounding.{AtomName}
-use Rattle.ms_base.specs.Listing.{IsShownList}
+use Rattle.ms_join.specs.AnswerSets.{IsAtomSet}
+use Rattle.ms_machine.specs.Grounding.{AtomName}
+use Rattle.ms_machine.specs.Listing.{IsShownList}
 use Rattle.ms_session.specs.ShownLists.{AreShownLists}
 use Rattle.ms_session.proofs.shown.shown_lists.Goals as goal
 

@@ -1,5 +1,5 @@
 use Rattle.std.proofs.Common.{rules, ◌∙◌, true, false, ◌||◌, ◌∷◌, drop, sym, subst, ap}
-use Rattle.ms_base.specs.Script.{items_of}
+use Rattle.ms_command.specs.Script.{items_of}
 use Rattle.mshot.proofs.Progress.{HasAnswered, answered_none, answered_more, answered_all, answered_front, answered_part}
 use Rattle.mshot.proofs.serve.answer.Goals as goal
 

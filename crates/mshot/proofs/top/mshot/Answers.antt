@@ -1,5 +1,5 @@
 use Rattle.std.proofs.Common.{false, refl, arith}
-use Rattle.ms_base.specs.Machine.{start}
+use Rattle.ms_machine.specs.Machine.{start}
 use Rattle.mshot.proofs.Progress.{answered_none, answered_front}
 use Rattle.mshot.proofs.top.mshot.Goals as goal
 

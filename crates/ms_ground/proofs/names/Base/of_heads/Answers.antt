@@ -1,7 +1,7 @@
 use Rattle.std.proofs.Common.{arith}
 use Rattle.std.proofs.lemmas.List.{length-map}
 use Rattle.std.proofs.lemmas.List.Filters.{dedup_is}
-use Rattle.ms_base.specs.Grounding.{IsBaseOf}
+use Rattle.ms_machine.specs.Grounding.{IsBaseOf}
 use Rattle.ms_ground.proofs.Bases.{IsBaseOf-from_heads}
 use Rattle.ms_ground.proofs.names.Base.of_heads.Goals as goal
 use Rattle.ms_ground.proofs.names.Base.of_heads.Goals.{In_ok-copies}

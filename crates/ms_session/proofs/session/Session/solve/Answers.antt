@@ -1,7 +1,7 @@
 use Rattle.std.proofs.Common.{◌≡◌, ◌∙◌, ℕ, List, [], length, All, sym, subst, ap}
-use Rattle.ms_base.specs.declared.ground_rule.GroundRule.{GroundRule}
-use Rattle.ms_base.specs.AnswerSets.{IsAtomSet}
-use Rattle.ms_base.specs.Listing.{AreAnswers}
+use Rattle.ms_join.specs.declared.ground_rule.GroundRule.{GroundRule}
+use Rattle.ms_join.specs.AnswerSets.{IsAtomSet}
+use Rattle.ms_machine.specs.Listing.{AreAnswers}
 use Rattle.ms_session.proofs.session.Session.solve.Goals as goal
 
 -- answers over a base are sets over it

@@ -1,5 +1,5 @@
-use crate::atom_id::AtomId;
-use crate::seq::Seq;
+use ms_base::atom_id::AtomId;
+use ms_base::seq::Seq;
 
 /// Numbers of atoms, in rising order and each once.
 pub type AtomIds = Seq<AtomId>;

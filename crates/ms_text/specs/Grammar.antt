@@ -2,19 +2,20 @@
 -- Source: normal rules and constraints of the ASP-Core-2 input language format.
 use Rattle.std.specs.Prelude.{ℕ, ◌≡◌, Bool, true, false, List, [], ◌∷◌, ◌++◌, map, Option, Some, None, Ok, Err, slice_range, ◌⊎◌}
 use Rattle.std.specs.List.{filter_map}
-use Rattle.ms_base.specs.declared.token.Token.{Token}
-use Rattle.ms_base.specs.declared.token.TokenKind.{TokenKind}
-use Rattle.ms_base.specs.declared.token.TokenKind.TheVariants.{Name, Not, If, Comma, Dot}
-use Rattle.ms_base.specs.declared.small_rule.SmallRule.{SmallRule}
-use Rattle.ms_base.specs.Tokens.{tokens_of}
+use Rattle.ms_text.specs.declared.token.Token.{Token}
+use Rattle.ms_text.specs.declared.token.TokenKind.{TokenKind}
+use Rattle.ms_text.specs.declared.token.TokenKind.TheVariants.{Name, Not, If, Comma, Dot}
+use Rattle.ms_text.specs.declared.small_rule.SmallRule.{SmallRule}
+use Rattle.ms_text.specs.Tokens.{tokens_of}
 
--- what a token says: a sign, the word not, or a name
+-- what a token says: a name, the word not, a sign of rules, or anything else
 pub data Word : Type 0 where
   named : List ℕ → Word
   word_not : Word
   word_if : Word
   word_comma : Word
   word_dot : Word
+  word_other : Word
 
 abbrev pub word_by_kind : TokenKind → List ℕ → Word
 word_by_kind Name name = named name
@@ -22,6 +23,7 @@ word_by_kind Not name = word_not
 word_by_kind If name = word_if
 word_by_kind Comma name = word_comma
 word_by_kind Dot name = word_dot
+word_by_kind kind name = word_other
 
 abbrev pub word_of : List ℕ → Token → Word
 word_of text t = word_by_kind t.kind (slice_range text t.start t.end)
@@ -69,10 +71,7 @@ in_first t (piece ∷ pieces) = (t ∷ piece) ∷ pieces
 
 abbrev pub before_pieces : TokenKind → Token → List (List Token) → List (List Token)
 before_pieces Dot t pieces = (t ∷ []) ∷ pieces
-before_pieces Name t pieces = in_first t pieces
-before_pieces Not t pieces = in_first t pieces
-before_pieces If t pieces = in_first t pieces
-before_pieces Comma t pieces = in_first t pieces
+before_pieces kind t pieces = in_first t pieces
 
 -- The tokens are cut after each dot. What follows the last dot is a piece too.
 unfoldable pub pieces_of : List Token → List (List Token)

@@ -1,17 +1,17 @@
 -- The machine that keeps only the accepted texts and the ground module, and solves it anew each time.
 use Rattle.std.specs.Prelude.{ℕ, ◌≡◌, ◌<◌, ◌≤◌, ◌++◌, Bool, true, false, List, [], ◌∷◌, length}
-use Rattle.ms_base.specs.declared.small_rule.SmallRule.{SmallRule}
-use Rattle.ms_base.specs.declared.ground_rule.GroundRule.{GroundRule}
-use Rattle.ms_base.specs.declared.command.Command.{Command}
-use Rattle.ms_base.specs.declared.command.Command.TheVariants.{Add, Ground, Solve}
-use Rattle.ms_base.specs.declared.command.ScriptItem.{ScriptItem}
-use Rattle.ms_base.specs.declared.command.ScriptItem.TheVariants.{Command as is_command, BadCommand, Unfinished}
-use Rattle.ms_base.specs.declared.reply.Reply.{Reply}
-use Rattle.ms_base.specs.declared.reply.Reply.TheVariants.{Added, Grounded, Solved, Refused}
-use Rattle.ms_base.specs.declared.reply.Refusal.TheVariants.{Command as bad_command, Unfinished as no_end, Syntax, Again, Small}
-use Rattle.ms_base.specs.Grammar.{Reads, IsNoText}
-use Rattle.ms_base.specs.Grounding.{AtomName, IsModule}
-use Rattle.ms_base.specs.Listing.{Solves, all_count}
+use Rattle.ms_text.specs.declared.small_rule.SmallRule.{SmallRule}
+use Rattle.ms_join.specs.declared.ground_rule.GroundRule.{GroundRule}
+use Rattle.ms_command.specs.declared.command.Command.{Command}
+use Rattle.ms_command.specs.declared.command.Command.TheVariants.{Add, Ground, Solve}
+use Rattle.ms_command.specs.declared.command.ScriptItem.{ScriptItem}
+use Rattle.ms_command.specs.declared.command.ScriptItem.TheVariants.{Command as is_command, BadCommand, Unfinished}
+use Rattle.ms_machine.specs.declared.reply.Reply.{Reply}
+use Rattle.ms_machine.specs.declared.reply.Reply.TheVariants.{Added, Grounded, Solved, Refused}
+use Rattle.ms_machine.specs.declared.reply.Refusal.TheVariants.{Command as bad_command, Unfinished as no_end, Syntax, Again, Small}
+use Rattle.ms_text.specs.Grammar.{Reads, IsNoText}
+use Rattle.ms_machine.specs.Grounding.{AtomName, IsModule}
+use Rattle.ms_machine.specs.Listing.{Solves, all_count}
 
 -- What the machine keeps: the accepted statements, whether they were grounded, the base and the rules.
 pub record State : Type 0 where

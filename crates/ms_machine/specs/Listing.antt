@@ -4,11 +4,11 @@ use Rattle.std.specs.List.{AllZip}
 use Rattle.std.specs.List.Sorted.{IsStrictlySortedBy, IsSorted, IsPermutation}
 use Rattle.std.specs.Ordering.{nat_cmp}
 use Rattle.std.specs.Cmp.Lexicographic.{slice_cmp}
-use Rattle.ms_base.specs.declared.ground_rule.GroundRule.{GroundRule}
-use Rattle.ms_base.specs.declared.reply.Ending.{Ending}
-use Rattle.ms_base.specs.declared.reply.Ending.TheVariants.{Complete, StillOpen}
-use Rattle.ms_base.specs.AnswerSets.{IsAnswerSet, IsAtomSet, Assumption, set_of}
-use Rattle.ms_base.specs.Grounding.{AtomName}
+use Rattle.ms_join.specs.declared.ground_rule.GroundRule.{GroundRule}
+use Rattle.ms_machine.specs.declared.reply.Ending.{Ending}
+use Rattle.ms_machine.specs.declared.reply.Ending.TheVariants.{Complete, StillOpen}
+use Rattle.ms_join.specs.AnswerSets.{IsAnswerSet, IsAtomSet, Assumption, set_of}
+use Rattle.ms_machine.specs.Grounding.{AtomName}
 
 -- The set, as the list of its atoms in rising order, is an answer set over a base of n atoms.
 pub record IsAnswer (n : ℕ) (rules : List GroundRule) (assumptions : List Assumption) (set : List ℕ) : Type 0 where

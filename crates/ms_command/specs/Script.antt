@@ -2,11 +2,11 @@
 use Rattle.std.specs.Prelude.{ℕ, ◌==◌, nat_eq, Bool, true, false, ◌||◌, ◌&&◌, List, [], ◌∷◌, ◌++◌, map, length, drop, take_while, Option, Some, None, Ok, Err, codes}
 use Rattle.std.specs.List.{list_all, starts_with}
 use Rattle.std.specs.Cmp.Lexicographic.{pointwise}
-use Rattle.ms_base.specs.declared.command.Command.TheVariants.{Add, Ground, Solve}
-use Rattle.ms_base.specs.declared.command.ScriptItem.{ScriptItem}
-use Rattle.ms_base.specs.declared.command.ScriptItem.TheVariants.{Command as is_command, BadCommand, Unfinished}
-use Rattle.ms_base.specs.Tokens.{tokens_of, is_word}
-use Rattle.ms_base.specs.Grammar.{Word, named, word_not, word_if, word_comma, word_dot, word_of}
+use Rattle.ms_command.specs.declared.command.Command.TheVariants.{Add, Ground, Solve}
+use Rattle.ms_command.specs.declared.command.ScriptItem.{ScriptItem}
+use Rattle.ms_command.specs.declared.command.ScriptItem.TheVariants.{Command as is_command, BadCommand, Unfinished}
+use Rattle.ms_text.specs.Tokens.{tokens_of, is_word}
+use Rattle.ms_text.specs.Grammar.{Word, named, word_not, word_if, word_comma, word_dot, word_other, word_of}
 
 abbrev pub in_first_line : ℕ → List (List ℕ) → List (List ℕ)
 in_first_line b [] = (b ∷ []) ∷ []
@@ -47,6 +47,7 @@ operand_by_words (word_not ∷ ws) = something
 operand_by_words (word_if ∷ ws) = something
 operand_by_words (word_comma ∷ ws) = something
 operand_by_words (word_dot ∷ ws) = something
+operand_by_words (word_other ∷ ws) = something
 
 abbrev pub operand_of : List ℕ → Operand
 operand_of text = elim (tokens_of text) [ Err bad ↦ something | Ok tokens ↦ operand_by_words (map (word_of text) tokens) ]

@@ -1,4 +1,4 @@
-use crate::seq::{Bytes, Seq};
+use ms_base::seq::{Bytes, Seq};
 
 /// How a solve ended.
 #[derive(Clone, Copy, Debug, PartialEq, Eq)]

@@ -2,13 +2,13 @@
 use Rattle.std.specs.Prelude.{ℕ, Bool, true, false, List, [], ◌∷◌, ◌++◌, codes}
 use Rattle.std.specs.List.{flat_map}
 use Rattle.std.specs.Fmt.{decimal}
-use Rattle.ms_base.specs.declared.reply.Reply.{Reply}
-use Rattle.ms_base.specs.declared.reply.Reply.TheVariants.{Added, Grounded, Solved, Refused}
-use Rattle.ms_base.specs.declared.reply.Ending.{Ending}
-use Rattle.ms_base.specs.declared.reply.Ending.TheVariants.{Complete, StillOpen}
-use Rattle.ms_base.specs.declared.reply.Refusal.{Refusal}
-use Rattle.ms_base.specs.declared.reply.Refusal.TheVariants.{Command, Unfinished, Syntax, Again, Small}
-use Rattle.ms_base.specs.Grounding.{AtomName}
+use Rattle.ms_machine.specs.declared.reply.Reply.{Reply}
+use Rattle.ms_machine.specs.declared.reply.Reply.TheVariants.{Added, Grounded, Solved, Refused}
+use Rattle.ms_machine.specs.declared.reply.Ending.{Ending}
+use Rattle.ms_machine.specs.declared.reply.Ending.TheVariants.{Complete, StillOpen}
+use Rattle.ms_machine.specs.declared.reply.Refusal.{Refusal}
+use Rattle.ms_machine.specs.declared.reply.Refusal.TheVariants.{Command, Unfinished, Syntax, Again, Small}
+use Rattle.ms_machine.specs.Grounding.{AtomName}
 
 -- a text with its line end
 abbrev pub line : List ℕ → List ℕ

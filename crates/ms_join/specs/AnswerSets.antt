@@ -4,9 +4,9 @@
 use Rattle.std.specs.Prelude.{ℕ, ◌≡◌, ◌<◌, ◌==◌, Bool, false, not, ◌&&◌, IsTrue, List, Option, All, None, IfSome, IsSomeAnd, ⊤}
 use Rattle.std.specs.List.{list_all, list_any}
 use Rattle.std.specs.List.Sorted.{IsStrictlyIncreasing}
-use Rattle.ms_base.specs.declared.ground_rule.GroundRule.{GroundRule}
-use Rattle.ms_base.specs.declared.ground_rule.GroundKind.{GroundKind}
-use Rattle.ms_base.specs.declared.ground_rule.GroundKind.TheVariants.{Normal, Constraint}
+use Rattle.ms_join.specs.declared.ground_rule.GroundRule.{GroundRule}
+use Rattle.ms_join.specs.declared.ground_rule.GroundKind.{GroundKind}
+use Rattle.ms_join.specs.declared.ground_rule.GroundKind.TheVariants.{Normal, Constraint}
 
 -- each of the atoms is in the set, and none of them is
 abbrev pub has_all : (ℕ → Bool) → List ℕ → Bool

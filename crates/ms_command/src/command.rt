@@ -1,4 +1,4 @@
-use crate::seq::{Bytes, Seq};
+use ms_base::seq::{Bytes, Seq};
 
 /// What a session takes one step for.
 #[derive(Debug, Drop)]

@@ -5,10 +5,10 @@ use Rattle.std.specs.Prelude.{ℕ, ◌≡◌, ◌≢◌, ◌↔◌, List, Option
 use Rattle.std.specs.List.Sorted.{IsStrictlyIncreasing, IsStrictlySortedBy}
 use Rattle.std.specs.Ordering.{nat_cmp}
 use Rattle.std.specs.Cmp.Lexicographic.{slice_cmp}
-use Rattle.ms_base.specs.declared.small_rule.SmallRule.{SmallRule}
-use Rattle.ms_base.specs.declared.ground_rule.GroundRule.{GroundRule}
-use Rattle.ms_base.specs.declared.ground_rule.GroundKind.{GroundKind}
-use Rattle.ms_base.specs.declared.ground_rule.GroundKind.TheVariants.{Normal, Constraint}
+use Rattle.ms_text.specs.declared.small_rule.SmallRule.{SmallRule}
+use Rattle.ms_join.specs.declared.ground_rule.GroundRule.{GroundRule}
+use Rattle.ms_join.specs.declared.ground_rule.GroundKind.{GroundKind}
+use Rattle.ms_join.specs.declared.ground_rule.GroundKind.TheVariants.{Normal, Constraint}
 
 -- A name of a plain atom, and the order of such atoms as terms: by bytes.
 abbrev pub AtomName : Type 0

@@ -1,0 +1,4 @@
+// Commands, and the definitions of specs/ that say which of them a script has.
+#![tactic(auto)]
+
+pub mod command;
