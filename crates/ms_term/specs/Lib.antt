@@ -1,2 +1,1 @@
-pub mod Op
 pub mod Terms

@@ -1,15 +1,16 @@
 // Ground terms by number, their order and text, and arithmetic on integers of 64 bits.
 #![tactic(auto)]
 
+mod arithmetic;
 mod node;
-mod op;
 mod term_id;
 mod terms;
 #[cfg(test)]
 mod tests;
 mod text;
 
+pub use arithmetic::arith;
 pub use ms_base::memory::OutOfMemory;
-pub use op::{Op, arith};
+pub use ms_tree::Op;
 pub use term_id::TermId;
 pub use terms::Terms;

@@ -6,7 +6,8 @@ use Rattle.ms_tree.specs.Tree.{number, text, function, no_tree, tree}
 use Rattle.ms_tree.specs.Order.{compare_trees}
 use Rattle.ms_tree.specs.Text.{tree_text}
 use Rattle.ms_tree.specs.Size.{tree_size}
-use Rattle.ms_tree.specs.Arithmetic.{value_of, divide, remainder}
+use Rattle.ms_tree.specs.declared.op.Op.TheVariants.{Div, Rem}
+use Rattle.ms_tree.specs.Arithmetic.{value_of}
 
 -- a comes before p(3)
 constant_before_call : compare_trees (function (97 ∷ []) no_tree) (function (112 ∷ []) (tree (number (pos 3)) no_tree)) ≡ Less
@@ -32,8 +33,8 @@ three_symbols : tree_size (function (102 ∷ []) (tree (function (97 ∷ []) no_
 three_symbols = refl
 
 -- -7/2 = -3 and -7\2 = -1
-toward_zero : value_of divide (negsuc 6) (pos 2) ≡ negsuc 2
+toward_zero : value_of Div (negsuc 6) (pos 2) ≡ negsuc 2
 toward_zero = refl
 
-sign_of_the_dividend : value_of remainder (negsuc 6) (pos 2) ≡ negsuc 0
+sign_of_the_dividend : value_of Rem (negsuc 6) (pos 2) ≡ negsuc 0
 sign_of_the_dividend = refl

@@ -1,26 +1,12 @@
 ghost use Rattle.std.specs.Prelude.{SomeIff};
 ghost use Rattle.ms_tree.specs.Arithmetic.{IsDefined, value_of};
-ghost use Rattle.ms_term.specs.Op.{operation_of};
 
-/// An operation of arithmetic.
-#[derive(Clone, Copy, Debug, PartialEq, Eq)]
-pub enum Op {
-    /// `+`
-    Add,
-    /// `-`
-    Sub,
-    /// `*`
-    Mul,
-    /// `/`, toward zero.
-    Div,
-    /// `\`, what `/` leaves, with the sign of the dividend.
-    Rem,
-}
+use ms_tree::Op;
 
 /// The value of `a op b`, or `None` exactly where it is undefined: where the result isn't within 64
 /// bits or the divisor is 0. `\` is undefined exactly where `/` is.
 pub fn arith(op: Op, a: i64, b: i64) -> Option<i64>
-    ensures { SomeIff result (IsDefined (operation_of op) a b) (value_of (operation_of op) a b) }
+    ensures { SomeIff result (IsDefined op a b) (value_of op a b) }
 {
     match op {
         Op::Add => a.checked_add(b),
