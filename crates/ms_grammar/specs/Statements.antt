@@ -243,17 +243,17 @@ abbrev pub body_spelled : Body → Option (Counted (List BodyLit))
 body_spelled b = row_of body_part_spelled (b.first ∷ map (λ part. part.1) b.more)
 
 -- head = atom | set
-pub data Head : Type 0 where
-  no_head : Head
-  atom_head : Atom → Head
-  choice_head : Choice → Head
+pub data HeadPart : Type 0 where
+  no_head : HeadPart
+  atom_head : Atom → HeadPart
+  choice_head : Choice → HeadPart
 
-abbrev pub head_words : Head → List Word
+abbrev pub head_words : HeadPart → List Word
 head_words no_head = []
 head_words (atom_head a) = atom_words a
 head_words (choice_head s) = choice_words s
 
-abbrev pub head_spelled : Head → Option (Counted HeadForm)
+abbrev pub head_spelled : HeadPart → Option (Counted HeadForm)
 head_spelled no_head = Some (alone Empty)
 head_spelled (atom_head a) = option_map (with_value HeadAtom) (atom_spelled a)
 head_spelled (choice_head s) = option_map (with_value HeadSet) (choice_spelled s)
@@ -289,7 +289,7 @@ parameter_names (parameters names) = names
 
 -- statement = [head] [":-" [body]] "." | directive "."
 pub data Sentence : Type 0 where
-  rule : Head → Tail → Sentence
+  rule : HeadPart → Tail → Sentence
   program : List ℕ → (ps : Parameters) → AllPairs (λ p q. p ≢ q) (parameter_names ps) → Sentence
   external : Atom → Sentence
   const : List ℕ → Spelling → Sentence
@@ -307,7 +307,7 @@ sentence_words show_none = sign Show ∷ sign Dot ∷ []
 sentence_words include = sign Include ∷ sign Less ∷ name (codes "incmode") ∷ sign Greater ∷ sign Dot ∷ []
 
 -- a rule isn't the lone "."
-abbrev pub rule_spelled : Head → Tail → Option (Counted Form)
+abbrev pub rule_spelled : HeadPart → Tail → Option (Counted Form)
 rule_spelled no_head no_tail = None
 rule_spelled head body = join (λ h b. Rule h b) (head_spelled head) (tail_spelled body)
 
