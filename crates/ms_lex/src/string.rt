@@ -1,5 +1,5 @@
 // Strings in double quotes.
-ghost use Rattle.std.specs.Prelude.{◌≡◌, ◌≢◌, ◌+◌, ◌<◌, ◌≤◌, false, length, drop, slice_index, IfSome};
+ghost use Rattle.std.specs.Prelude.{◌≡◌, ◌+◌, ◌<◌, ◌≤◌, false, length, IfSome};
 ghost use Rattle.ms_lex.specs.Strings.{character_len};
 ghost use Rattle.ms_text.specs.Tokens.{text_len, text_token};
 
