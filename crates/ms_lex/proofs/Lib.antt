@@ -1,4 +1,7 @@
 pub mod InLine
 pub mod NameLens
+pub mod Numbers
 pub mod Reading
 pub mod Steps
+pub mod Strings
+pub mod Words

@@ -4,7 +4,7 @@ use Rattle.std.specs.Option.{option_map_or}
 use Rattle.std.proofs.lemmas.Bool.Decides.{nat_tests}
 use Rattle.ms_text.specs.declared.token.Token.{Token}
 use Rattle.ms_text.specs.declared.token.TokenKind.{TokenKind}
-use Rattle.ms_text.specs.declared.token.TokenKind.TheVariants.{Name, Not, If, Comma, Dot}
+use Rattle.ms_text.specs.declared.token.TokenKind.TheVariants.{Dot}
 use Rattle.ms_text.specs.Grammar.{pieces_of, before_pieces, in_first}
 use Rattle.ms_parse.specs.Pieces.{is_dot, piece_len, IsFirstPiece}
 
@@ -30,10 +30,7 @@ before_pieces-dot _ t pieces e = cc
 
 before_pieces-other : (k : TokenKind) (t : Token) (pieces : List (List Token)) → is_dot k ≡ false → before_pieces k t pieces ≡ in_first t pieces
 before_pieces-other Dot t pieces e = cc
-before_pieces-other Name t pieces e = refl
-before_pieces-other Not t pieces e = refl
-before_pieces-other If t pieces e = refl
-before_pieces-other Comma t pieces e = refl
+before_pieces-other _ t pieces e = refl
 
 -- The first piece has n of the tokens.
 abbrev HasPiece : List Token → ℕ → Type 0

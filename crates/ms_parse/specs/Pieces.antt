@@ -3,15 +3,12 @@ use Rattle.std.specs.Prelude.{◌≡◌, ◌<◌, ℕ, ◌+◌, position, Bool, 
 use Rattle.std.specs.Option.{option_map_or}
 use Rattle.ms_text.specs.declared.token.Token.{Token}
 use Rattle.ms_text.specs.declared.token.TokenKind.{TokenKind}
-use Rattle.ms_text.specs.declared.token.TokenKind.TheVariants.{Name, Not, If, Comma, Dot}
+use Rattle.ms_text.specs.declared.token.TokenKind.TheVariants.{Dot}
 use Rattle.ms_text.specs.Grammar.{pieces_of}
 
 abbrev pub is_dot : TokenKind → Bool
 is_dot Dot = true
-is_dot Name = false
-is_dot Not = false
-is_dot If = false
-is_dot Comma = false
+is_dot kind = false
 
 -- how many tokens the first piece has: those up to the first dot, and it
 abbrev pub piece_len : List Token → ℕ

@@ -13,9 +13,9 @@ mod draft;
 use crate::draft::Draft;
 use ms_base::memory::OutOfMemory;
 use ms_base::seq::Seq;
+use ms_lex::Tokens;
 pub use ms_text::small_rule::{Names, SmallRule, SmallRules};
 use ms_text::token::{Token, TokenKind};
-use ms_lex::Tokens;
 use std::alloc::{AllocFailed, Global};
 
 /// Why tokens are no statements.

@@ -5,8 +5,8 @@ ghost use Rattle.ms_command.specs.Script.{is_space, skipped, meaning_of, meaning
 ghost use Rattle.ms_text.specs.Tokens.{tokens_of, LieWithin};
 ghost use Rattle.ms_script.specs.Kinds.{meaning_shown, operand_shown};
 
-use ms_command::command::{Command, ScriptItem};
 use ms_base::memory::OutOfMemory;
+use ms_command::command::{Command, ScriptItem};
 use ms_lex::{LexFault, Token, TokenKind, lex, word_len};
 use std::alloc::Global;
 

@@ -10,8 +10,8 @@ mod texts;
 
 use kinds::{LineKind, line_kind};
 use lines::first_line;
-pub use ms_command::command::{Command, ScriptItem};
 pub use ms_base::memory::OutOfMemory;
+pub use ms_command::command::{Command, ScriptItem};
 use std::alloc::Global;
 use texts::next_text;
 

@@ -7,9 +7,9 @@ ghost use Rattle.ms_command.specs.Script.{is_edge, skipped, ends_text, items_fro
 
 use crate::NextItem;
 use crate::lines::first_line;
-use ms_command::command::{Command, ScriptItem};
 use ms_base::memory::OutOfMemory;
 use ms_base::seq::Bytes;
+use ms_command::command::{Command, ScriptItem};
 use std::alloc::Global;
 
 /// The item of the text that begins here, inside an `@add`.

@@ -1,6 +1,6 @@
 use Rattle.std.proofs.Common.{None, Some, ◌∙◌}
 use Rattle.ms_lex.proofs.NameLens.{name_len-at}
-use Rattle.ms_lex.proofs.front.name_len.Goals as goal
+use Rattle.ms_lex.proofs.name.name_len.Goals as goal
 
 pub returns-in_err-bare-clause-value : goal.returns-in_err-bare-clause-value
 returns-in_err-bare-clause-value c =
