@@ -32,9 +32,9 @@ numbered_cases stages (a ∷ nodes) number b inside =
       | inr apart ↦ elim (cases_eq b a) [
         | inl same ↦ inl (contains_first a nodes b same, apart.1 ∙ ap (λ (x : ℕ). stage_of after x) same ∙ get_or-set_same stages a (Closed number) New here)
         | inr differs ↦ inr (
-            (λ c. elim (contains_cons_cases a nodes b c) [ inl same ↦ differs same | inr later ↦ apart.0 later ]),
-            apart.1 ∙ get_or-set_other stages a b (Closed number) New differs,
-          )
+          (λ c. elim (contains_cons_cases a nodes b c) [ inl same ↦ differs same | inr later ↦ apart.0 later ]),
+          apart.1 ∙ get_or-set_other stages a b (Closed number) New differs,
+        )
       ]
     ]
 

@@ -155,10 +155,10 @@ stands_entered s a k link link_new from end placed inside new left stands =
           (stands_keep s (entered s a) k link link_new (stage_of s.stages from) end_old end_new left
           (λ p _ _ c. Contains-append_left s.path (n ∷ []) p c)
           (λ p is followed.
-              let lt = (placed.of_node from p is).within in
-              subst (λ x. IsFollowed (entered s a).segments p x) (sym (stage_kept s a end new (followed_not_new s.segments p end_old followed)))
-              (followed_fewer s.segments (entered s a).segments p end_old
-              (λ b c. elim (Contains-push_cases s.segments n b c) [ inl old ↦ inl old | inr last ↦ inr (omega (arith, last, lt)) ]) followed))
+          let lt = (placed.of_node from p is).within in
+          subst (λ x. IsFollowed (entered s a).segments p x) (sym (stage_kept s a end new (followed_not_new s.segments p end_old followed)))
+          (followed_fewer s.segments (entered s a).segments p end_old
+          (λ b c. elim (Contains-push_cases s.segments n b c) [ inl old ↦ inl old | inr last ↦ inr (omega (arith, last, lt)) ]) followed))
           (λ m _ closed. subst (λ x. IsClosedUpTo m x) (sym (stage_kept s a end new (up_to_not_new m end_old closed))) closed)
           stands)
     ]

@@ -151,7 +151,7 @@ search_followed edges s node a last last_new search at taken inside same_len =
             let from : edge.from ≡ node = ap (λ (i : ℕ). (get_or edges i d).from) same ∙ leads.start in
             let to : edge.to ≡ a = ap (λ (i : ℕ). (get_or edges i d).to) same ∙ leads.end in
             let was : stage_of s.stages edge.from ≡ Open (end_of s) =
-                ap (λ (x : ℕ). stage_of s.stages x) (from ∙ sym at.is) ∙ search.stored.placed.of_place (end_of s) end_lt in
+            ap (λ (x : ℕ). stage_of s.stages x) (from ∙ sym at.is) ∙ search.stored.placed.of_place (end_of s) end_lt in
             subst (λ x. Stands t k (slice_index last_new edge.from) x (stage_of t.stages edge.to)) (sym (f.opened edge.from (end_of s) was))
             (inr (subst (λ x. IsFollowed t.segments (end_of s) (stage_of t.stages x)) (sym to) (f.end (end_of s) end_lt)))
         | inr differs ↦
@@ -182,48 +182,48 @@ leaves edges s node last search at none =
     let rising = search.stored.rising in
     let inside = end_open s rising at.some in
     let done : (i : ℕ) → i < slice_index last (node_at s (end_of s)) → ⊥ =
-        λ i lt. let never : i < 0 = subst (λ x. i < x) none (subst (λ x. i < slice_index last x) at.is lt) in omega (arith, never) in
+    λ i lt. let never : i < 0 = subst (λ x. i < x) none (subst (λ x. i < slice_index last x) at.is lt) in omega (arith, never) in
     let some = at.some in
     let len_path = length-take (length s.path - 1) s.path in
     cond_both (eqb (last_of s.segments) (end_of s)) (after s) (retreated s) (λ t. Leaves edges last s t)
     (λ same.
-        let start = eqb-true (last_of s.segments) (end_of s) same in
-        let len = length-numbered s.stages (drop (end_of s) s.stack) s.count in
-        let fewer = new_count-numbered s.stages (drop (end_of s) s.stack) s.count (drop_inside s (end_of s) placed) in
-        record {
-          search = record {
-            len = search.len ∙ sym len;
-            stored = record {
-              placed = placed_closed s placed inside;
-              rising = rising_closed s rising some start;
-              room = room_closed s placed search.stored.room inside;
-            };
-            reaching = reaching_closed edges s search.reaching start;
-            edges_stand = λ k d lt. stands_closed edges s k (get_or edges k d).from (get_or edges k d).to last placed rising search.numbered some start done (search.edges_stand k d lt);
-            numbered = numbered_closed edges s placed rising search.reaching search.numbered start;
-          };
-          len = len;
-          new = λ b is. new_before s b placed is;
-          shrinks = omega (arith, fewer, len_path, some);
-        })
+    let start = eqb-true (last_of s.segments) (end_of s) same in
+    let len = length-numbered s.stages (drop (end_of s) s.stack) s.count in
+    let fewer = new_count-numbered s.stages (drop (end_of s) s.stack) s.count (drop_inside s (end_of s) placed) in
+    record {
+      search = record {
+        len = search.len ∙ sym len;
+        stored = record {
+          placed = placed_closed s placed inside;
+          rising = rising_closed s rising some start;
+          room = room_closed s placed search.stored.room inside;
+        };
+        reaching = reaching_closed edges s search.reaching start;
+        edges_stand = λ k d lt. stands_closed edges s k (get_or edges k d).from (get_or edges k d).to last placed rising search.numbered some start done (search.edges_stand k d lt);
+        numbered = numbered_closed edges s placed rising search.reaching search.numbered start;
+      };
+      len = len;
+      new = λ b is. new_before s b placed is;
+      shrinks = omega (arith, fewer, len_path, some);
+    })
     (λ differs.
-        let inner : Contains s.segments (end_of s) → ⊥ = λ c. eqb-false (last_of s.segments) (end_of s) differs (last_start s rising some c) in
-        record {
-          search = record {
-            len = search.len;
-            stored = record {
-              placed = placed_retreated s placed;
-              rising = rising_retreated s rising inner;
-              room = room_retreated s search.stored.room;
-            };
-            reaching = reaching_retreated edges s search.reaching;
-            edges_stand = λ k d lt. stands_retreated s k (get_or edges k d).from (stage_of s.stages (get_or edges k d).to) last placed done (search.edges_stand k d lt);
-            numbered = numbered_retreated edges s search.numbered;
-          };
-          len = refl;
-          new = λ b is. is;
-          shrinks = omega (arith, len_path, some);
-        })
+    let inner : Contains s.segments (end_of s) → ⊥ = λ c. eqb-false (last_of s.segments) (end_of s) differs (last_start s rising some c) in
+    record {
+      search = record {
+        len = search.len;
+        stored = record {
+          placed = placed_retreated s placed;
+          rising = rising_retreated s rising inner;
+          room = room_retreated s search.stored.room;
+        };
+        reaching = reaching_retreated edges s search.reaching;
+        edges_stand = λ k d lt. stands_retreated s k (get_or edges k d).from (stage_of s.stages (get_or edges k d).to) last placed done (search.edges_stand k d lt);
+        numbered = numbered_retreated edges s search.numbered;
+      };
+      len = refl;
+      new = λ b is. is;
+      shrinks = omega (arith, len_path, some);
+    })
 
 -- what the code of a step asks for
 

@@ -113,10 +113,10 @@ turns s b placed =
     elim (numbered_cases s.stages nodes s.count b (drop_inside s (end_of s) placed)) [
       | inl among ↦ let from = from_drop (end_of s) s.stack b among.0 in shut from.at from.after from.within from.is among.1
       | inr apart ↦ kept (λ p is. elim (cases_lt p (end_of s)) [
-          | inl less ↦ less
-          | inr more ↦ let old = placed.of_node b p is in
-              absurd (apart.0 (subst (λ x. Contains nodes x) old.node (in_drop (end_of s) s.stack p more old.within)))
-        ]) apart.1
+        | inl less ↦ less
+        | inr more ↦ let old = placed.of_node b p is in
+            absurd (apart.0 (subst (λ x. Contains nodes x) old.node (in_drop (end_of s) s.stack p more old.within)))
+      ]) apart.1
     ]
 
 open_kept : (s : State) (b p : ℕ) → ArePlaced s → stage_of (after s).stages b ≡ Open p → (stage_of s.stages b ≡ Open p) × (p < end_of s)

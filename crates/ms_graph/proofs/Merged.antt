@@ -72,12 +72,12 @@ pub merged_is : (v s : State) (segments : List ℕ) (place n : ℕ) → v ≡ s 
 merged_is v s segments place n same front rising short last beyond =
     let rising_here = subst (λ (x : State). IsStrictlyIncreasing x.segments) (sym same) rising in
     let within : (k : ℕ) → k < n → k < length v.segments → get_or v.segments k 0 ≤ place = λ k lt inside.
-        elim (cases_lt (k + 1) n) [
-          | inl less ↦
-              let up = AllPairs-from_increasing v.segments rising_here k (n - 1) 0 (omega (arith, less)) (omega (arith, short, lt)) in
-              let le = last (n - 1) (omega (arith, lt)) in
-              omega (arith, up, le)
-          | inr more ↦ last k (omega (arith, lt, more))
-        ] in
+    elim (cases_lt (k + 1) n) [
+      | inl less ↦
+          let up = AllPairs-from_increasing v.segments rising_here k (n - 1) 0 (omega (arith, less)) (omega (arith, short, lt)) in
+          let le = last (n - 1) (omega (arith, lt)) in
+          omega (arith, up, le)
+      | inr more ↦ last k (omega (arith, lt, more))
+    ] in
     ap (λ (xs : List ℕ). record v { segments = xs }) (front ∙ front_filtered place v.segments n within beyond)
     ∙ ap (λ (x : State). merged x place) same

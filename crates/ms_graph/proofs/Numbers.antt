@@ -105,9 +105,9 @@ numbers_final edges last numbers s nodes finished len graph maps =
     let numbers_len : length numbers ≡ nodes = sym (length-map numbers (λ (number : ℕ). Closed number)) ∙ ap length maps ∙ len in
     let is : (a : ℕ) → a < nodes → stage_of s.stages a ≡ Closed (slice_index numbers a) = λ a lt. number_is s.stages numbers a maps (omega (arith, len, lt)) in
     let falls : (x y : ℕ) → IsEdge edges x y → slice_index numbers y ≤ slice_index numbers x = λ x y edge.
-        let leads = edge.leads some_edge in
-        let le = edge_falls edges last numbers s edge.place some_edge search graph_here maps edge.within in
-        subst (λ z. slice_index numbers y ≤ slice_index numbers z) leads.start (subst (λ z. slice_index numbers z ≤ slice_index numbers (get_or edges edge.place some_edge).from) leads.end le) in
+    let leads = edge.leads some_edge in
+    let le = edge_falls edges last numbers s edge.place some_edge search graph_here maps edge.within in
+    subst (λ z. slice_index numbers y ≤ slice_index numbers z) leads.start (subst (λ z. slice_index numbers z ≤ slice_index numbers (get_or edges edge.place some_edge).from) leads.end le) in
     record {
       len = numbers_len;
       components = λ a b lt_a lt_b. (

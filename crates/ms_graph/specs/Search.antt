@@ -61,11 +61,12 @@ closed s place = record s {
 abbrev pub left : State → State
 left s = if last_of s.segments == last_of s.path then closed (retreated s) (last_of s.path) else retreated s
 
--- exactly the nodes of the stack are open, each in its place
+-- the node stands in this place of the stack
 pub record IsOpenAt (s : State) (a place : ℕ) : Type 0 where
   pub within : place < length s.stack
   pub node : node_at s place ≡ a
 
+-- Exactly the nodes of the stack are open, each in its place.
 pub record ArePlaced (s : State) : Type 0 where
   pub of_place : (place : ℕ) → place < length s.stack → stage_of s.stages (node_at s place) ≡ Open place
   pub of_node : (a place : ℕ) → stage_of s.stages a ≡ Open place → IsOpenAt s a place
@@ -79,7 +80,7 @@ pub record AreRising (s : State) : Type 0 where
   pub starts : (place : ℕ) → Contains s.segments place → Contains s.path place
   pub first : 0 < length s.stack → Contains s.segments 0
 
--- the open nodes, the new ones and the components together are no more than the nodes
+-- The open nodes, the new ones and the components together are no more than the nodes.
 pub record HasRoom (s : State) : Type 0 where
   pub fits : length s.stack + new_count s.stages + s.count ≤ length s.stages
   pub few : length s.stages < 2 ^ 32

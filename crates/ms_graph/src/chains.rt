@@ -1,6 +1,6 @@
 // The edges from each node that remain to be followed, linked backwards in the order of the list. A link is the
 // place after an edge, or 0.
-ghost use Rattle.std.specs.Prelude.{◌≡◌, ◌<◌, length, slice_index, vec_len, IfOk, IfSome, IfNone};
+ghost use Rattle.std.specs.Prelude.{◌≡◌, ◌<◌, length, slice_index, IfOk, IfSome, IfNone};
 ghost use Rattle.ms_graph.specs.Chains.{AreChains, AllRemain, IsTaken};
 ghost use Rattle.ms_graph.specs.Components.{IsGraph};
 

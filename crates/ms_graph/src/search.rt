@@ -5,14 +5,14 @@
 // stack is cut into segments, which start at nodes of the path. Each open node reaches those after it, and
 // nodes of one segment reach each other, so each open node reaches the end of the path.
 // An edge from there to an open node joins the segments from that node on, since the end of the path now
-// reaches it. Where the last node of the path has no edge left, the edges of the nodes after it are followed
-// too. If a segment starts there, then all edges of the segment lead to itself or to closed nodes, so it is a
-// component, and what it reaches has smaller numbers.
-ghost use Rattle.std.specs.Prelude.{ℕ, ◌≡◌, ◌+◌, ◌<◌, ◌≤◌, ◌==◌, [], IsTrue, ◌↔◌, All, map, filter, length, nat_le, slice_index, vec_len, IfOk, OnOk};
+// reaches it. The last node of the path is left once all its edges were followed, as those of the nodes after
+// it were before. If a segment starts there, each edge of the segment leads into it or to a closed node. So it
+// is a component, and the other components that it reaches have smaller numbers.
+ghost use Rattle.std.specs.Prelude.{ℕ, ◌≡◌, ◌+◌, ◌<◌, ◌≤◌, ◌==◌, [], All, map, length, slice_index, IfOk, OnOk};
 ghost use Rattle.ms_graph.specs.Chains.{AreChains};
 ghost use Rattle.ms_graph.specs.Components.{IsGraph, IsNumbering};
-ghost use Rattle.ms_graph.specs.Stages.{IsClosed, numbered, stage_of};
-ghost use Rattle.ms_graph.specs.Search.{IsSearch, IsStored, current, entered, merged, followed, left, last_of, work, IsStart};
+ghost use Rattle.ms_graph.specs.Stages.{IsClosed, KeepsEntered, numbered, stage_of};
+ghost use Rattle.ms_graph.specs.Search.{IsSearch, IsStart, IsStored, current, entered, followed, last_of, left, merged, work};
 ghost use Rattle.ms_graph.specs.declared.stage.Stage.TheVariants.{New, Closed};
 
 use crate::chains::Chains;
@@ -128,7 +128,7 @@ impl Search {
         }
     }
 
-    /// Follows an edge of the path's last node, or leaves the node where none is left.
+    /// Follows the next edge of the path's last node, or leaves the node where none remains.
     fn step(&mut self, edges: &[Edge], chains: &mut Chains, node: u32) -> Result<(), OutOfMemory>
         requires graph { IsGraph (length self.old.stages) edges.now }
         requires chains { AreChains edges.now chains.old.last.items chains.old.before.items }
@@ -137,7 +137,7 @@ impl Search {
         ensures chains { AreChains edges.now chains.new.last.items chains.new.before.items }
         ensures search { OnOk result (IsSearch edges.now chains.new.last.items self.new) }
         ensures len { OnOk result (length self.new.stages ≡ length self.old.stages) }
-        ensures new { OnOk result ((a : ℕ) → stage_of self.new.stages a ≡ New → stage_of self.old.stages a ≡ New) }
+        ensures entered { OnOk result (KeepsEntered self.old.stages self.new.stages) }
         ensures shrinks { OnOk result (work chains.new.last.items self.new < work chains.old.last.items self.old) }
     {
         match chains.take(edges, node) {
@@ -147,7 +147,7 @@ impl Search {
         Ok(())
     }
 
-    /// Closes all nodes that this one reaches.
+    /// Searches from a node until the path is empty again.
     fn explore(&mut self, edges: &[Edge], chains: &mut Chains, root: u32) -> Result<(), OutOfMemory>
         requires graph { IsGraph (length self.old.stages) edges.now }
         requires chains { AreChains edges.now chains.old.last.items chains.old.before.items }
@@ -158,7 +158,7 @@ impl Search {
         ensures search { OnOk result (IsSearch edges.now chains.new.last.items self.new) }
         ensures path { OnOk result (self.new.path ≡ []) }
         ensures len { OnOk result (length self.new.stages ≡ length self.old.stages) }
-        ensures new { OnOk result ((a : ℕ) → stage_of self.new.stages a ≡ New → stage_of self.old.stages a ≡ New) }
+        ensures entered { OnOk result (KeepsEntered self.old.stages self.new.stages) }
         ensures root { OnOk result (stage_of self.new.stages root ≡ New → ⊥) }
     {
         self.follow(root)?;
@@ -214,8 +214,8 @@ fn close(stages: &mut [Stage], nodes: &[u32], number: u32)
 
 /// A number for each node, below the number of nodes. Two nodes have equal numbers exactly where each reaches
 /// the other, and no edge leads to a greater number. The ends of edges are below the number of nodes. Each
-/// node and each edge is looked at once, so its time and its room grow with nodes plus edges. It fails only
-/// for want of memory.
+/// edge is followed once, and each node is entered once and left once, so time and room grow with nodes plus
+/// edges. It fails only for want of memory.
 pub fn components(alloc: Global, nodes: u32, edges: &Edges) -> Result<Comps, OutOfMemory>
     requires { IsGraph nodes edges.now }
     ensures { IfOk result (IsNumbering nodes edges.now) }

@@ -27,6 +27,6 @@ returns-in-Some c =
     let at = end.1 in
     let inside : c.in-Some.place.now < length c.self.inside.stack.items = omega (arith, len, lt, at) in
     let node : c.index.result.now ≡ node_at s c.in-Some.place.now =
-        c.index.ensures ∙ get_or_default_zero c.self.inside.stack.items c.in-Some.place.now c.index.result.now inside
-        ∙ ap (λ (x : State). node_at x c.in-Some.place.now) c.self.view_is in
+    c.index.ensures ∙ get_or_default_zero c.self.inside.stack.items c.in-Some.place.now c.index.result.now inside
+    ∙ ap (λ (x : State). node_at x c.in-Some.place.now) c.self.view_is in
     current_is s c.in-Some.place.now c.index.result.now (subst (λ (xs : List ℕ). slice_get xs (length xs - 1) ≡ Some c.in-Some.place.now) path read) node

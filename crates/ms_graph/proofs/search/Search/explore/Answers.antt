@@ -13,7 +13,7 @@ loop-node-init c =
       chains = c.requires.chains;
       search = search_root edges s c.args.root last c.requires.search c.requires.path c.requires.root;
       len = f.len;
-      new = f.new;
+      entered = f.new;
       root = f.seen;
     })
 

@@ -1,7 +1,7 @@
-use Rattle.std.proofs.Common.{ℕ, ◌≡◌, length}
+use Rattle.std.proofs.Common.{◌≡◌, length}
 use Rattle.ms_graph.specs.declared.stage.Stage.TheVariants.{New}
 use Rattle.ms_graph.specs.Chains.{AreChains}
-use Rattle.ms_graph.specs.Stages.{stage_of}
+use Rattle.ms_graph.specs.Stages.{KeepsEntered, stage_of}
 use Rattle.ms_graph.specs.Search.{IsSearch, work}
 use Rattle.ms_graph.proofs.search.Search.explore.Given as goal
 
@@ -10,7 +10,7 @@ invariant-loop-node l = record {
   chains : AreChains l.edges l.chains.last.items l.chains.before.items;
   search : IsSearch l.edges l.chains.last.items l.self;
   len : length l.self.stages ≡ length l.fn.self.stages;
-  new : (a : ℕ) → stage_of l.self.stages a ≡ New → stage_of l.fn.self.stages a ≡ New;
+  entered : KeepsEntered l.fn.self.stages l.self.stages;
   root : stage_of l.self.stages l.root ≡ New → ⊥;
 }
 

@@ -35,8 +35,8 @@ returns-in-None-clause-len c =
     rw c.leave.ensures
     (leaves c.args.edges.now c.args.self.now c.args.node c.args.chains.now.last.items c.requires.search at c.in-None.ensures.none).len
 
-pub returns-in-None-clause-new : goal.returns-in-None-clause-new
-returns-in-None-clause-new c =
+pub returns-in-None-clause-entered : goal.returns-in-None-clause-entered
+returns-in-None-clause-entered c =
     let at = end_from_current c.args.self.now c.args.node c.requires.node in
     rw c.leave.ensures
     (leaves c.args.edges.now c.args.self.now c.args.node c.args.chains.now.last.items c.requires.search at c.in-None.ensures.none).new
