@@ -1,5 +1,10 @@
-mod Counts
+mod Closing
+mod Entered
+mod Followed
+mod Left
 mod Linked
+mod Lists
+mod Merged
 mod Numbers
-mod Spreading
+mod Standing
 mod Walks

@@ -1,24 +1,12 @@
 -- The links from each edge to the one before it from the same node.
 use Rattle.std.proofs.Common.{◌≡◌, ◌+◌, ◌<◌, ℕ, List, [], ◌∷◌, ◌++◌, inl, inr, length, get_or, set, sym, subst, ◌∙◌, ap, arith}
 use Rattle.std.proofs.lemmas.Bool.{cases_eq, cases_lt}
-use Rattle.std.proofs.lemmas.Grind.{get_or_default_zero}
 use Rattle.std.proofs.lemmas.List.{get_or_append_left, get_or_default, get_or_push, get_or-set_other, get_or-set_same, length-append, length-set}
+use Rattle.std.proofs.lemmas.List.Sums.{sum_by-set}
 use Rattle.ms_graph.specs.declared.edge.Edge.{Edge}
-use Rattle.ms_graph.specs.Chains.{IsLast, AreLinked}
+use Rattle.ms_graph.specs.Components.{IsGraph, HasEndsBelow}
+use Rattle.ms_graph.specs.Chains.{IsLast, AreLinked, AreChains, AllRemain, IsTaken}
 use Rattle.ms_graph.proofs.Walks.{some_edge}
-
--- the link to a node's last edge
-pub first_is_last : (nodes : ℕ) (edges : List Edge) (last before : List ℕ) (node link : ℕ) → AreLinked nodes edges (length edges) last before → node < nodes → link ≡ get_or last node link → IsLast edges node (length edges) link
-first_is_last nodes edges last before node link linked lt read =
-    let same : link ≡ get_or last node 0 = read ∙ get_or_default_zero last node link (let l = linked.last_len in omega (arith, l, lt)) in
-    subst (λ l. IsLast edges node (length edges) l) (sym same) (linked.of_nodes node lt)
-
--- the link from an edge to the one before it
-pub next_is_last : (nodes : ℕ) (edges : List Edge) (last before : List ℕ) (node j next : ℕ) → AreLinked nodes edges (length edges) last before → j < length edges → (get_or edges j some_edge).from ≡ node → next ≡ get_or before j next → IsLast edges node j next
-next_is_last nodes edges last before node j next linked lt from read =
-    let same : next ≡ get_or before j 0 = read ∙ get_or_default_zero before j next (let l = linked.before_len in omega (arith, l, lt)) in
-    let here : IsLast edges node j (get_or before j 0) = subst (λ n. IsLast edges n j (get_or before j 0)) from (linked.of_edges j some_edge lt) in
-    subst (λ l. IsLast edges node j l) (sym same) here
 
 from_at : (edges : List Edge) (i k : ℕ) (d : Edge) → i < length edges → k ≡ i → (get_or edges k d).from ≡ (get_or edges i some_edge).from
 from_at edges i k d lt same =
@@ -26,15 +14,19 @@ from_at edges i k d lt same =
 
 last_here : (edges : List Edge) (i : ℕ) → i < length edges → IsLast edges (get_or edges i some_edge).from (i + 1) (i + 1)
 last_here edges i lt = record {
-  within = omega arith;
-  found = λ k d at. from_at edges i k d lt (omega (arith, at));
+  is_link = record {
+    within = omega arith;
+    found = λ k d at. from_at edges i k d lt (omega (arith, at));
+  };
   others = λ k d le less _. absurd (omega (arith, le, less));
 }
 
 last_other : (edges : List Edge) (i node link : ℕ) → i < length edges → (node ≡ (get_or edges i some_edge).from → ⊥) → IsLast edges node i link → IsLast edges node (i + 1) link
 last_other edges i node link lt differs last = record {
-  within = let w = last.within in omega (arith, w);
-  found = last.found;
+  is_link = record {
+    within = let w = last.is_link.within in omega (arith, w);
+    found = last.is_link.found;
+  };
   others = λ k d le less from. elim (cases_lt k i) [
     | inl before ↦ last.others k d le before from
     | inr more ↦ differs (sym from ∙ from_at edges i k d lt (omega (arith, more, less)))
@@ -66,3 +58,70 @@ linked_more nodes edges i last before last_new before_new linked lt in_range set
       ];
     } in
     rw (sets, pushes) after
+
+pub chains_whole : (nodes : ℕ) (edges : List Edge) (last before : List ℕ) → AreLinked nodes edges (length edges) last before → AreChains edges last before
+chains_whole nodes edges last before linked = record {
+  len = linked.before_len;
+  of_nodes = λ n lt. (linked.of_nodes n (let len = linked.last_len in omega (arith, len, lt))).is_link;
+  of_edges = linked.of_edges;
+}
+
+pub all_remain : (nodes : ℕ) (edges : List Edge) (last before : List ℕ) → IsGraph nodes edges → AreLinked nodes edges (length edges) last before → AllRemain edges last
+all_remain nodes edges last before graph linked k d lt =
+    let node = (get_or edges k d).from in
+    let ends : HasEndsBelow nodes (get_or edges k d) = graph k d lt in
+    elim (cases_lt k (get_or last node 0)) [
+      | inl less ↦ less
+      | inr more ↦ absurd ((linked.of_nodes node ends.start).others k d more lt (ap (λ (e : Edge). e.from) (get_or_default edges k d d lt)))
+    ]
+
+-- the last edge from a node is taken: its place, and the link before it
+pub chains_taken : (edges : List Edge) (last before : List ℕ) (node j : ℕ) → AreChains edges last before → node < length last → get_or last node 0 ≡ j + 1 → AreChains edges (set last node (get_or before j 0)) before
+chains_taken edges last before node j chains inside at =
+    let link = chains.of_nodes node inside in
+    let within = link.within in
+    let lt : j < length edges = omega (arith, within, at) in
+    let next = chains.of_edges j some_edge lt in
+    let from = link.found j some_edge at in
+    let below = next.is_link.within in
+    let len = length-set last node (get_or before j 0) in
+    record {
+      len = chains.len;
+      of_nodes = λ n n_lt. elim (cases_eq n node) [
+        | inl same ↦ rw same (rw (get_or-set_same last node (get_or before j 0) 0 inside) (record {
+          within = omega (arith, below, lt);
+          found = λ k d is. next.is_link.found k d is ∙ from;
+        }))
+        | inr differs ↦ rw (get_or-set_other last node n (get_or before j 0) 0 differs) (chains.of_nodes n (omega (arith, len, n_lt)))
+      ];
+      of_edges = chains.of_edges;
+    }
+
+pub is_taken : (edges : List Edge) (last before : List ℕ) (node j end : ℕ) → AreChains edges last before → node < length last → get_or last node 0 ≡ j + 1 → (get_or edges j some_edge).to ≡ end → IsTaken edges node last (set last node (get_or before j 0)) end
+is_taken edges last before node j end chains inside at to =
+    let link = chains.of_nodes node inside in
+    let within = link.within in
+    let lt : j < length edges = omega (arith, within, at) in
+    let next = chains.of_edges j some_edge lt in
+    let from = link.found j some_edge at in
+    let below = next.is_link.within in
+    let sums = sum_by-set (λ (x : ℕ). x) last node (get_or before j 0) 0 inside in
+    record {
+      place = j;
+      within = lt;
+      leads = λ d. record {
+        start = link.found j d at;
+        end = ap (λ (e : Edge). e.to) (get_or_default edges j d some_edge lt) ∙ to;
+      };
+      others = λ k d k_lt differs remains. elim (cases_eq (get_or edges k d).from node) [
+        | inl same ↦ rw same (rw (get_or-set_same last node (get_or before j 0) 0 inside)
+            (let here : k < j + 1 = subst (λ l. k < l) at (subst (λ n. k < get_or last n 0) same remains) in
+            let less : k < j = omega (arith, here, differs) in
+            elim (cases_lt k (get_or before j 0)) [
+              | inl before_it ↦ before_it
+              | inr more ↦ absurd (next.others k d more less (same ∙ sym from))
+            ]))
+        | inr other ↦ rw (get_or-set_other last node (get_or edges k d).from (get_or before j 0) 0 other) remains
+      ];
+      fewer = omega (arith, sums, below, at);
+    }

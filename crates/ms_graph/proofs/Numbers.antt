@@ -1,143 +1,132 @@
--- Sizes, keys and ranks, and the numbers that they give.
-use Rattle.std.proofs.Common.{◌≡◌, ◌<◌, ◌≤◌, ℕ, true, IsTrue, List, inl, inr, length, get_or, refl, sym, subst, ◌∙◌, ap, arith}
-use Rattle.std.specs.Prelude.{ltb, slice_index}
-use Rattle.std.proofs.lemmas.Bool.{cases_lt, lt-ltb, le-ltb, ltb-true}
-use Rattle.std.proofs.lemmas.List.{get_or_default}
-use Rattle.std.proofs.lemmas.List.Sums.{count_by-le-length}
+-- The state before the first node, and the numbers after the last.
+use Rattle.std.proofs.Common.{◌≡◌, ◌<◌, ◌≤◌, ◌^◌, ℕ, zero, suc, List, [], length, get_or, map, refl, sym, subst, ◌∙◌, ap, arith}
+use Rattle.std.specs.Prelude.{slice_index}
+use Rattle.std.specs.List.{All}
+use Rattle.std.proofs.lemmas.List.{get_or_default, get_or-map, length-map}
+use Rattle.std.proofs.lemmas.List.Elements.{All-from_get_or}
 use Rattle.ms_graph.specs.declared.edge.Edge.{Edge}
-use Rattle.ms_graph.specs.Components.{Reaches, ReachEachOther, IsGraph, HasEndsBelow, IsNumbering}
-use Rattle.ms_graph.specs.Keys.{IsSize, AreSizes, IsPeer, IsKey, AreKeys, AreRanks, rank}
-use Rattle.ms_graph.proofs.Walks.{reaches_through, reaches_self, reaches_more, edge_at, reached_marked}
-use Rattle.ms_graph.proofs.Counts.{marked_count-le, marked_count-same, count_by-le, count_by-lt}
+use Rattle.ms_graph.specs.declared.stage.Stage.{Stage}
+use Rattle.ms_graph.specs.declared.stage.Stage.TheVariants.{New, Open, Closed}
+use Rattle.ms_graph.specs.Chains.{AllRemain}
+use Rattle.ms_graph.specs.Components.{Walk, IsEdge, IsGraph, HasEndsBelow, IsNumbering}
+use Rattle.ms_graph.specs.Stages.{stage_of, IsClosed}
+use Rattle.ms_graph.specs.State.{State}
+use Rattle.ms_graph.specs.Search.{IsStart, IsSearch, IsClosedUpTo, Stands}
+use Rattle.ms_graph.proofs.Lists.{none_in}
+use Rattle.ms_graph.proofs.Standing.{closed_not_new}
+use Rattle.ms_graph.proofs.Walks.{some_edge}
 
--- a node reaches no fewer nodes than one that it reaches
-size-le : (nodes : ℕ) (edges : List Edge) (a b size_a size_b : ℕ) → IsSize nodes edges a size_a → IsSize nodes edges b size_b → Reaches edges a b → size_b ≤ size_a
-size-le nodes edges a b size_a size_b of_a of_b reaches =
-    let len : length of_b.marks ≡ length of_a.marks = of_b.reach.len ∙ sym of_a.reach.len in
-    let fewer = marked_count-le of_b.marks of_a.marks len (λ x marked. reached_marked nodes edges a x of_a.marks of_a.reach (reaches_through edges a b x reaches (of_b.reach.marked.reached x marked))) in
-    omega (arith, fewer, of_a.size_is, of_b.size_is)
+open_not_new' : (s : State) (a p : ℕ) → ((b : ℕ) → stage_of s.stages b ≡ New) → stage_of s.stages a ≡ Open p → ⊥
+open_not_new' s a p new is = let never = sym (new a) ∙ is in cc
 
--- where it reaches equally many, it is reached back
-reached_back : (nodes : ℕ) (edges : List Edge) (a b size_a size_b : ℕ) → IsSize nodes edges a size_a → IsSize nodes edges b size_b → Reaches edges a b → size_a ≤ size_b → Reaches edges b a
-reached_back nodes edges a b size_a size_b of_a of_b reaches many =
-    let len : length of_b.marks ≡ length of_a.marks = of_b.reach.len ∙ sym of_a.reach.len in
-    of_b.reach.marked.reached a (marked_count-same of_b.marks of_a.marks a len
-    (λ x marked. reached_marked nodes edges a x of_a.marks of_a.reach (reaches_through edges a b x reaches (of_b.reach.marked.reached x marked)))
-    (omega (arith, of_a.size_is, of_b.size_is, many))
-    of_a.reach.marked.start_marked)
-
-peer_of : (nodes : ℕ) (edges : List Edge) (sizes : List ℕ) (a key : ℕ) (of : IsKey nodes edges sizes a key) → IsPeer of.marks sizes (slice_index sizes a) of.first
-peer_of nodes edges sizes a key of = of.first_peer.peer (let r = of.in_range in let l = of.reach.len in omega (arith, r, l))
-
--- a node and the first of its key are in one component
-peers : (nodes : ℕ) (edges : List Edge) (sizes : List ℕ) (a key : ℕ) → length sizes ≡ nodes → AreSizes nodes edges sizes → a < nodes → (of : IsKey nodes edges sizes a key) → ReachEachOther edges a of.first
-peers nodes edges sizes a key len sized lt of =
-    let peer = peer_of nodes edges sizes a key of in
-    let r = of.in_range in
-    let forth = of.reach.marked.reached of.first peer.marked in
-    let same = peer.sized in
+pub search_start : (nodes : ℕ) (edges : List Edge) (last : List ℕ) (s : State) → nodes < 2 ^ 32 → IsStart nodes s → length last ≡ nodes → AllRemain edges last → IsSearch edges last s
+search_start nodes edges last s few start len all_remain =
+    let empty : length s.stack ≡ 0 = ap length start.stack in
+    let same = start.len in
     record {
-      forth = forth;
-      back = reached_back nodes edges a of.first _ _ (sized.each a (omega (arith, len, lt))) (sized.each of.first (omega (arith, len, r))) forth (omega (arith, same));
+      len = len ∙ sym start.len;
+      stored = record {
+        placed = record {
+          of_place = λ p lt. absurd (omega (arith, lt, empty));
+          of_node = λ a p is. absurd (open_not_new' s a p start.all_new is);
+        };
+        rising = record {
+          path = λ k lt. absurd (let never = ap length start.path in omega (arith, lt, never));
+          segments = λ k lt. absurd (let never = ap length start.segments in omega (arith, lt, never));
+          within = λ p c. absurd (none_in s.path p start.path c);
+          starts = λ b c. absurd (none_in s.segments b start.segments c);
+          first = λ lt. absurd (omega (arith, lt, empty));
+        };
+        room = record {
+          fits = let new = start.new_count in let count = start.count in omega (arith, empty, same, new, count);
+          few = omega (arith, few, same);
+        };
+      };
+      reaching = record {
+        forth = λ p q le lt. absurd (omega (arith, lt, empty));
+        back = λ p q le lt _. absurd (omega (arith, lt, empty));
+      };
+      edges_stand = λ k d lt.
+          let edge : Edge = get_or edges k d in
+          subst (λ x. Stands s k (slice_index last edge.from) x (stage_of s.stages edge.to)) (sym (start.all_new edge.from)) (all_remain k d lt);
+      numbered = record {
+        below = λ a n is. absurd (closed_not_new n (sym is ∙ start.all_new a));
+        same = λ a b n is _. absurd (closed_not_new n (sym is ∙ start.all_new a));
+      };
     }
 
--- a node that reaches another of the same size has no later first
-first-le : (nodes : ℕ) (edges : List Edge) (sizes : List ℕ) (a b key_a key_b : ℕ) (of_a : IsKey nodes edges sizes a key_a) (of_b : IsKey nodes edges sizes b key_b) → slice_index sizes a ≡ slice_index sizes b → Reaches edges b a → of_b.first ≤ of_a.first
-first-le nodes edges sizes a b key_a key_b of_a of_b same reaches = elim (cases_lt of_a.first of_b.first) [
-  | inl less ↦
-      let peer = peer_of nodes edges sizes a key_a of_a in
-      absurd (of_b.first_peer.before of_a.first less (record {
-        marked = reached_marked nodes edges b of_a.first of_b.marks of_b.reach (reaches_through edges b a of_a.first reaches (of_a.reach.marked.reached of_a.first peer.marked));
-        sized = peer.sized ∙ same;
-      }))
-  | inr more ↦ more
-]
+-- All nodes were entered and the path is empty.
+pub record IsFinished (edges : List Edge) (last : List ℕ) (s : State) : Type 0 where
+  pub search : IsSearch edges last s
+  pub path : s.path ≡ []
+  pub seen : (a : ℕ) → a < length s.stages → stage_of s.stages a ≡ New → ⊥
 
-each_other_same : (nodes : ℕ) (edges : List Edge) (sizes : List ℕ) (a b key_a key_b : ℕ) → length sizes ≡ nodes → AreSizes nodes edges sizes → a < nodes → b < nodes → IsKey nodes edges sizes a key_a → IsKey nodes edges sizes b key_b → ReachEachOther edges a b → key_a ≡ key_b
-each_other_same nodes edges sizes a b key_a key_b len sized lt_a lt_b of_a of_b both =
-    let size_a = sized.each a (omega (arith, len, lt_a)) in
-    let size_b = sized.each b (omega (arith, len, lt_b)) in
-    let le = size-le nodes edges a b _ _ size_a size_b both.forth in
-    let ge = size-le nodes edges b a _ _ size_b size_a both.back in
-    let same : slice_index sizes a ≡ slice_index sizes b = omega (arith, le, ge) in
-    let first_le = first-le nodes edges sizes a b key_a key_b of_a of_b same both.back in
-    let first_ge = first-le nodes edges sizes b a key_b key_a of_b of_a (sym same) both.forth in
-    omega (arith, same, first_le, first_ge, of_a.key_is, of_b.key_is)
+stack_none : (edges : List Edge) (last : List ℕ) (s : State) → IsFinished edges last s → (p : ℕ) → p < length s.stack → ⊥
+stack_none edges last s finished p lt =
+    let rising = finished.search.stored.rising in
+    none_in s.path 0 finished.path (rising.starts 0 (rising.first (omega (arith, lt))))
 
-same_each_other : (nodes : ℕ) (edges : List Edge) (sizes : List ℕ) (a b key_a key_b : ℕ) → nodes < 4294967296 → length sizes ≡ nodes → AreSizes nodes edges sizes → a < nodes → b < nodes → IsKey nodes edges sizes a key_a → IsKey nodes edges sizes b key_b → key_a ≡ key_b → ReachEachOther edges a b
-same_each_other nodes edges sizes a b key_a key_b few len sized lt_a lt_b of_a of_b same =
-    let below_a = of_a.in_range in
-    let below_b = of_b.in_range in
-    let first : of_a.first ≡ of_b.first = omega (arith, few, below_a, below_b, of_a.key_is, of_b.key_is, same) in
-    let to_a = peers nodes edges sizes a key_a len sized lt_a of_a in
-    let to_b : ReachEachOther edges b of_a.first = subst (λ f. ReachEachOther edges b f) (sym first) (peers nodes edges sizes b key_b len sized lt_b of_b) in
+closed_stage : (x : Stage) → (x ≡ New → ⊥) → ((p : ℕ) → x ≡ Open p → ⊥) → IsClosed x
+closed_stage New new open' = new refl
+closed_stage (Open p) new open' = open' p refl
+closed_stage (Closed n) new open' = tt
+
+pub all_closed : (edges : List Edge) (last : List ℕ) (s : State) → IsFinished edges last s → All IsClosed s.stages
+all_closed edges last s finished =
+    All-from_get_or IsClosed s.stages New (λ a lt. closed_stage (stage_of s.stages a) (finished.seen a lt)
+    (λ p is. stack_none edges last s finished p (finished.search.stored.placed.of_node a p is).within))
+
+number_is : (stages : List Stage) (numbers : List ℕ) (a : ℕ) → map (λ number. Closed number) numbers ≡ stages → a < length stages → stage_of stages a ≡ Closed (slice_index numbers a)
+number_is stages numbers a maps lt =
+    let len = length-map numbers (λ (number : ℕ). Closed number) in
+    let same = ap length maps in
+    ap (λ (xs : List Stage). stage_of xs a) (sym maps) ∙ get_or-map (λ (number : ℕ). Closed number) numbers a 0 New (omega (arith, len, same, lt))
+
+edge_falls : (edges : List Edge) (last numbers : List ℕ) (s : State) (k : ℕ) (d : Edge) → IsSearch edges last s → IsGraph (length s.stages) edges → map (λ number. Closed number) numbers ≡ s.stages → k < length edges → slice_index numbers (get_or edges k d).to ≤ slice_index numbers (get_or edges k d).from
+edge_falls edges last numbers s k d search graph maps lt =
+    let edge : Edge = get_or edges k d in
+    let ends : HasEndsBelow (length s.stages) edge = graph k d lt in
+    let from = number_is s.stages numbers edge.from maps ends.start in
+    let to = number_is s.stages numbers edge.to maps ends.end in
+    subst (λ x. IsClosedUpTo (slice_index numbers edge.from) x) to
+    (subst (λ x. Stands s k (slice_index last edge.from) x (stage_of s.stages edge.to)) from (search.edges_stand k d lt))
+
+walk_falls : (edges : List Edge) (numbers : List ℕ) (steps a b : ℕ) → ((x y : ℕ) → IsEdge edges x y → slice_index numbers y ≤ slice_index numbers x) → Walk edges steps a b → slice_index numbers b ≤ slice_index numbers a
+walk_falls edges numbers zero a b falls walk = let same = ap (λ (x : ℕ). slice_index numbers x) walk in omega (arith, same)
+walk_falls edges numbers (suc steps) a b falls walk =
+    let rest = walk_falls edges numbers steps a walk.0 falls walk.1 in
+    let last = falls walk.0 b walk.2 in
+    omega (arith, rest, last)
+
+pub numbers_final : (edges : List Edge) (last numbers : List ℕ) (s : State) (nodes : ℕ) → IsFinished edges last s → length s.stages ≡ nodes → IsGraph nodes edges → map (λ number. Closed number) numbers ≡ s.stages → IsNumbering nodes edges numbers
+numbers_final edges last numbers s nodes finished len graph maps =
+    let search = finished.search in
+    let graph_here : IsGraph (length s.stages) edges = subst (λ n. IsGraph n edges) (sym len) graph in
+    let numbers_len : length numbers ≡ nodes = sym (length-map numbers (λ (number : ℕ). Closed number)) ∙ ap length maps ∙ len in
+    let is : (a : ℕ) → a < nodes → stage_of s.stages a ≡ Closed (slice_index numbers a) = λ a lt. number_is s.stages numbers a maps (omega (arith, len, lt)) in
+    let falls : (x y : ℕ) → IsEdge edges x y → slice_index numbers y ≤ slice_index numbers x = λ x y edge.
+    let leads = edge.leads some_edge in
+    let le = edge_falls edges last numbers s edge.place some_edge search graph_here maps edge.within in
+    subst (λ z. slice_index numbers y ≤ slice_index numbers z) leads.start (subst (λ z. slice_index numbers z ≤ slice_index numbers (get_or edges edge.place some_edge).from) leads.end le) in
     record {
-      forth = reaches_through edges a of_a.first b to_a.forth to_b.back;
-      back = reaches_through edges b of_a.first a to_b.forth to_a.back;
-    }
-
-key-falls : (nodes : ℕ) (edges : List Edge) (sizes : List ℕ) (a b key_a key_b : ℕ) → nodes < 4294967296 → length sizes ≡ nodes → AreSizes nodes edges sizes → a < nodes → b < nodes → IsKey nodes edges sizes a key_a → IsKey nodes edges sizes b key_b → Reaches edges a b → key_b ≤ key_a
-key-falls nodes edges sizes a b key_a key_b few len sized lt_a lt_b of_a of_b reaches =
-    let size_a = sized.each a (omega (arith, len, lt_a)) in
-    let size_b = sized.each b (omega (arith, len, lt_b)) in
-    let below_b = of_b.in_range in
-    elim (cases_lt (slice_index sizes b) (slice_index sizes a)) [
-      | inl less ↦ omega (arith, few, below_b, less, of_a.key_is, of_b.key_is)
-      | inr more ↦
-          let same : key_a ≡ key_b = each_other_same nodes edges sizes a b key_a key_b len sized lt_a lt_b of_a of_b (record { forth = reaches; back = reached_back nodes edges a b _ _ size_a size_b reaches more }) in
-          omega (arith, same)
-    ]
-
-below_also : (k l : ℕ) → k ≤ l → (x : ℕ) → IsTrue (ltb x k) → IsTrue (ltb x l)
-below_also k l le x less = lt-ltb x l (let lt = ltb-true x k less in omega (arith, lt, le))
-
-rank-le : (keys : List ℕ) (k l : ℕ) → k ≤ l → rank keys k ≤ rank keys l
-rank-le keys k l le = count_by-le (λ x. ltb x k) (λ x. ltb x l) (below_also k l le) keys
-
-rank-lt : (keys : List ℕ) (i l : ℕ) → i < length keys → get_or keys i 0 < l → rank keys (get_or keys i 0) < rank keys l
-rank-lt keys i l within lt =
-    let k = get_or keys i 0 in
-    count_by-lt (λ x. ltb x k) (λ x. ltb x l) (below_also k l (omega (arith, lt))) keys i within (le-ltb k k (omega arith)) (lt-ltb k l lt)
-
-pub rank-below : (keys : List ℕ) (i : ℕ) → i < length keys → rank keys (get_or keys i 0) < length keys
-rank-below keys i within =
-    let k = get_or keys i 0 in
-    let less = count_by-lt (λ x. ltb x k) (λ _. true) (λ _ _. refl) keys i within (le-ltb k k (omega arith)) refl in
-    let all = count_by-le-length (λ (_ : ℕ). true) keys in
-    omega (arith, less, all)
-
-same_rank : (keys : List ℕ) (i j : ℕ) → i < length keys → j < length keys → rank keys (get_or keys i 0) ≡ rank keys (get_or keys j 0) → get_or keys i 0 ≡ get_or keys j 0
-same_rank keys i j lt_i lt_j same = elim (cases_lt (get_or keys i 0) (get_or keys j 0)) [
-  | inl less ↦ absurd (let r = rank-lt keys i (get_or keys j 0) lt_i less in omega (arith, r, same))
-  | inr more ↦ elim (cases_lt (get_or keys j 0) (get_or keys i 0)) [
-    | inl less ↦ absurd (let r = rank-lt keys j (get_or keys i 0) lt_j less in omega (arith, r, same))
-    | inr le ↦ omega (arith, more, le)
-  ]
-]
-
--- the ranks of the keys number the components
-pub ranks_number : (nodes : ℕ) (edges : List Edge) (sizes keys numbers : List ℕ) → nodes < 4294967296 → IsGraph nodes edges → length sizes ≡ nodes → AreSizes nodes edges sizes → length keys ≡ nodes → AreKeys nodes edges sizes keys → AreRanks keys numbers → IsNumbering nodes edges numbers
-ranks_number nodes edges sizes keys numbers few graph len sized keys_len keyed ranked =
-    let numbers_len = ranked.len in
-    let key_of : (a : ℕ) → a < nodes → IsKey nodes edges sizes a (get_or keys a 0) = λ a lt. keyed.each a (omega (arith, keys_len, lt)) in
-    let number_is : (a : ℕ) → a < nodes → get_or numbers a 0 ≡ rank keys (get_or keys a 0) = λ a lt. ranked.each a (omega (arith, keys_len, numbers_len, lt)) in
-    record {
-      len = numbers_len ∙ keys_len;
+      len = numbers_len;
       components = λ a b lt_a lt_b. (
-        (λ same. same_each_other nodes edges sizes a b _ _ few len sized lt_a lt_b (key_of a lt_a) (key_of b lt_b)
-            (same_rank keys a b (omega (arith, keys_len, lt_a)) (omega (arith, keys_len, lt_b)) (sym (number_is a lt_a) ∙ same ∙ number_is b lt_b))),
-        (λ both. number_is a lt_a ∙ ap (rank keys) (each_other_same nodes edges sizes a b _ _ len sized lt_a lt_b (key_of a lt_a) (key_of b lt_b) both) ∙ sym (number_is b lt_b)),
+        (λ same.
+            let is_b : stage_of s.stages b ≡ Closed (slice_index numbers a) = is b lt_b ∙ ap (λ (n : ℕ). Closed n) (sym same) in
+            record {
+              forth = search.numbered.same a b (slice_index numbers a) (is a lt_a) is_b;
+              back = search.numbered.same b a (slice_index numbers a) is_b (is a lt_a);
+            }),
+        (λ both.
+            let le = walk_falls edges numbers both.forth.steps a b falls both.forth.walk in
+            let ge = walk_falls edges numbers both.back.steps b a falls both.back.walk in
+            omega (arith, le, ge)),
       );
-      falling = λ k edge lt.
-          let e : Edge = get_or edges k edge in
-          let ends : HasEndsBelow nodes e = graph k edge lt in
-          let reaches : Reaches edges e.from e.to = reaches_more edges e.from e.from e.to (reaches_self edges e.from) (edge_at edges k e lt (get_or_default edges k edge e lt)) in
-          let falls = key-falls nodes edges sizes e.from e.to _ _ few len sized ends.start ends.end (key_of e.from ends.start) (key_of e.to ends.end) reaches in
-          let ranks = rank-le keys (get_or keys e.to 0) (get_or keys e.from 0) falls in
-          omega (arith, ranks, number_is e.from ends.start, number_is e.to ends.end);
+      falling = λ k d lt. edge_falls edges last numbers s k d search graph_here maps lt;
       below = λ k d lt.
-          let inside : k < nodes = omega (arith, numbers_len, keys_len, lt) in
-          let less = rank-below keys k (omega (arith, keys_len, inside)) in
-          let read : get_or numbers k d ≡ get_or numbers k 0 = get_or_default numbers k d 0 lt in
-          omega (arith, read, number_is k inside, less, keys_len);
+          let inside : k < nodes = omega (arith, numbers_len, lt) in
+          let less = search.numbered.below k (slice_index numbers k) (is k inside) in
+          let fits = search.stored.room.fits in
+          let read = get_or_default numbers k d 0 lt in
+          omega (arith, less, fits, len, read);
     }

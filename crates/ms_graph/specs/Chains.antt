@@ -1,13 +1,17 @@
--- The edges from a node, each linked to the one before it.
-use Rattle.std.specs.Prelude.{ℕ, ◌≡◌, ◌+◌, ◌*◌, ◌<◌, ◌≤◌, ◌⊎◌, Bool, IsTrue, List, All, Contains, length, slice_index}
+-- The edges from each node that remain to be followed, each linked to the one before it.
+use Rattle.std.specs.Prelude.{ℕ, ◌≡◌, ◌+◌, ◌<◌, ◌≤◌, List, length, sum, slice_index}
 use Rattle.std.specs.List.{slice_index_or}
 use Rattle.ms_graph.specs.declared.edge.Edge.{Edge}
-use Rattle.ms_graph.specs.Marks.{mark_at, unmarked_count, StaysIn, AreReached}
+use Rattle.ms_graph.specs.Components.{Leads}
+
+-- the link to an edge from the node among the first so many edges, or to none
+pub record IsLink (edges : List Edge) (node count link : ℕ) : Type 0 where
+  pub within : link ≤ count
+  pub found : (k : ℕ) (d : Edge) → link ≡ k + 1 → (slice_index_or edges k d).from ≡ node
 
 -- the link to the last edge from the node among the first so many edges
 pub record IsLast (edges : List Edge) (node count link : ℕ) : Type 0 where
-  pub within : link ≤ count
-  pub found : (k : ℕ) (d : Edge) → link ≡ k + 1 → (slice_index_or edges k d).from ≡ node
+  pub is_link : IsLink edges node count link
   pub others : (k : ℕ) (d : Edge) → link ≤ k → k < count → (slice_index_or edges k d).from ≡ node → ⊥
 
 -- The last edge of each node and the one before each edge are linked, of the first so many edges.
@@ -17,28 +21,23 @@ pub record AreLinked (nodes : ℕ) (edges : List Edge) (count : ℕ) (last befor
   pub of_nodes : (node : ℕ) → node < nodes → IsLast edges node count (slice_index last node)
   pub of_edges : (k : ℕ) (d : Edge) → k < count → IsLast edges (slice_index_or edges k d).from k (slice_index before k)
 
-abbrev pub AreChains : ℕ → List Edge → List ℕ → List ℕ → Type 0
-AreChains nodes edges last before = AreLinked nodes edges (length edges) last before
+-- Each node is linked to one of its edges, and each edge to the one before it.
+pub record AreChains (edges : List Edge) (last before : List ℕ) : Type 0 where
+  pub len : length before ≡ length edges
+  pub of_nodes : (node : ℕ) → node < length last → IsLink edges node (length edges) (slice_index last node)
+  pub of_edges : (k : ℕ) (d : Edge) → k < length edges → IsLast edges (slice_index_or edges k d).from k (slice_index before k)
 
--- The edge in a place doesn't lead out of the set, or its start waits, or is the node whose edges before the
--- link are still to be looked at.
-abbrev pub IsSettled : List Bool → List ℕ → ℕ → ℕ → ℕ → Edge → Type 0
-IsSettled marks pending node link k edge =
-    StaysIn marks edge ⊎ (Contains pending edge.from ⊎ ((edge.from ≡ node) × (k < link)))
+-- The edge in a place remains where the link of its start is beyond it.
+abbrev pub Remains : List ℕ → ℕ → Edge → Type 0
+Remains last place edge = place < slice_index last edge.from
 
--- falls with each node that is marked or looked at
-abbrev pub work_left : List Bool → List ℕ → ℕ
-work_left marks pending = 2 * unmarked_count marks + length pending
+abbrev pub AllRemain : List Edge → List ℕ → Type 0
+AllRemain edges last = (k : ℕ) (d : Edge) → k < length edges → Remains last k (slice_index_or edges k d)
 
--- The marked nodes, of which those that wait have edges that were not looked at.
-pub record IsSpreading (edges : List Edge) (old marks : List Bool) (pending : List ℕ) (bound node link : ℕ) : Type 0 where
-  pub reached : (start : ℕ) → AreReached edges start old → AreReached edges start marks
-  pub node_marked : IsTrue (mark_at marks node)
-  pub waiting : All (λ a. IsTrue (mark_at marks a)) pending
-  pub settled : (k : ℕ) (d : Edge) → k < length edges → IsSettled marks pending node link k (slice_index_or edges k d)
-  pub shrinks : work_left marks pending ≤ bound
-
--- the same between two nodes
-pub record IsFront (edges : List Edge) (marks : List Bool) (pending : List ℕ) : Type 0 where
-  pub waiting : All (λ a. IsTrue (mark_at marks a)) pending
-  pub settled : All (λ edge. StaysIn marks edge ⊎ Contains pending edge.from) edges
+-- An edge from the one node to the other is taken, and all others that remained still do.
+pub record IsTaken (edges : List Edge) (node : ℕ) (old new : List ℕ) (end : ℕ) : Type 0 where
+  pub place : ℕ
+  pub within : place < length edges
+  pub leads : (d : Edge) → Leads (slice_index_or edges place d) node end
+  pub others : (k : ℕ) (d : Edge) → k < length edges → (k ≡ place → ⊥) → Remains old k (slice_index_or edges k d) → Remains new k (slice_index_or edges k d)
+  pub fewer : sum new < sum old

@@ -1,4 +1,5 @@
 pub mod Chains
 pub mod Components
-pub mod Keys
-pub mod Marks
+pub mod Search
+pub mod Stages
+pub mod State

@@ -3,13 +3,13 @@
 
 mod chains;
 mod edge;
-mod numbering;
-mod reach;
+mod search;
+mod stage;
 
 pub use edge::Edge;
 pub use ms_base::memory::OutOfMemory;
 use ms_base::seq::Seq;
-pub use numbering::components;
+pub use search::components;
 
 /// Edges, of which several may join the same nodes.
 pub type Edges = Seq<Edge>;

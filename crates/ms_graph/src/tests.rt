@@ -73,7 +73,7 @@ fn small_graphs(rt: HostRuntime) -> Result<(), Fail> {
             message: "two circles with an edge between",
             nodes: 4,
             edges: &[(0, 1), (1, 0), (1, 2), (2, 3), (3, 2)],
-            numbers: &[2, 2, 0, 0],
+            numbers: &[1, 1, 0, 0],
         },
     ];
     for row in &rows {

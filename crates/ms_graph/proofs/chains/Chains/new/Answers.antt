@@ -3,7 +3,7 @@ use Rattle.std.proofs.lemmas.Grind.{get_or_default_zero}
 use Rattle.ms_graph.specs.Components.{HasEndsBelow}
 use Rattle.ms_graph.specs.Chains.{AreLinked}
 use Rattle.ms_graph.proofs.Walks.{some_edge}
-use Rattle.ms_graph.proofs.Linked.{linked_more}
+use Rattle.ms_graph.proofs.Linked.{linked_more, chains_whole, all_remain}
 use Rattle.ms_graph.proofs.chains.Chains.new.Goals as goal
 
 pub loop-i-preserved : goal.loop-i-preserved
@@ -20,7 +20,14 @@ loop-i-preserved c =
     let pushes : c.push.new.self.items ≡ c.loop-i.before.items ++ c.index.result.now ∷ [] = c.in_ok-push.ensures.items in
     linked_more c.args.nodes edges i c.loop-i.last.items c.loop-i.before.items _ c.push.new.self.items c.loop-i.invariant lt start refl (pushes ∙ ap (λ (x : ℕ). c.loop-i.before.items ++ x ∷ []) link)
 
-pub returns : goal.returns
-returns c =
+pub returns-clause-chains : goal.returns-clause-chains
+returns-clause-chains c =
     let same : c.loop-i.i ≡ length c.args.edges.now = omega arith in
-    subst (λ n. AreLinked c.args.nodes c.args.edges.now n c.loop-i.last.items c.loop-i.before.items) same c.loop-i.invariant
+    chains_whole c.args.nodes c.args.edges.now c.loop-i.last.items c.loop-i.before.items
+    (subst (λ n. AreLinked c.args.nodes c.args.edges.now n c.loop-i.last.items c.loop-i.before.items) same c.loop-i.invariant)
+
+pub returns-clause-all : goal.returns-clause-all
+returns-clause-all c =
+    let same : c.loop-i.i ≡ length c.args.edges.now = omega arith in
+    all_remain c.args.nodes c.args.edges.now c.loop-i.last.items c.loop-i.before.items c.requires
+    (subst (λ n. AreLinked c.args.nodes c.args.edges.now n c.loop-i.last.items c.loop-i.before.items) same c.loop-i.invariant)
