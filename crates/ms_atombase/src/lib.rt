@@ -1,0 +1,10 @@
+// The atoms of a base, in the order in which they came.
+#![tactic(auto)]
+
+mod atom_base;
+#[cfg(test)]
+mod tests;
+
+pub use atom_base::{AtomBase, Mark};
+pub use ms_base::atom_id::AtomId;
+pub use ms_term::{OutOfMemory, TermId};
