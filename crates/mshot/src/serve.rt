@@ -6,8 +6,8 @@ ghost use Rattle.mshot.specs.Outcome.{IsAfterReading, Writes, WritesFrontOf};
 
 use crate::status::Status;
 use ms_base::memory::OutOfMemory;
-use ms_machine::reply::{Refusal, Reply};
 use ms_io::Sink;
+use ms_machine::reply::{Refusal, Reply};
 use ms_script::{NextItem, ScriptItem, next_item};
 use ms_session::{Session, print};
 use std::alloc::Global;

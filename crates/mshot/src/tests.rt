@@ -49,7 +49,7 @@ fn scripts_have_their_replies(rt: HostRuntime) -> Result<(), Fail> {
     let refused = Status::SomeRefused;
     let facts =
         b"@add\na1. a2. a3. a4. a5. a6. a7. a8. a9. a10. a11. a12. a13. a14. a15. a16. a17. a18. a19. a20. a21.\n@end\n@ground base\n@ground base\n@solve all\n";
-    let rows: [(&str, &[u8], Status, &str); 16] = [
+    let rows: [(&str, &[u8], Status, &str); 18] = [
         ("empty input", b"", done, ""),
         ("blanks and a comment", b" \t\n\r\n% @add\n", done, ""),
         ("two answers", TWO_RULES.as_bytes(), done, TWO_REPLIES),
@@ -88,6 +88,18 @@ fn scripts_have_their_replies(rt: HostRuntime) -> Result<(), Fail> {
             b"@add\na.\n% \xff\nb. \xff\n@end\n\x00\n",
             refused,
             "refused syntax 3\nrefused command\n",
+        ),
+        (
+            "tokens that no statement has",
+            b"@add\na.\np(1).\n@end\n",
+            refused,
+            "refused syntax 2\n",
+        ),
+        (
+            "an unfinished string",
+            b"@add\na.\n\nb :- \"x.\n@end\n",
+            refused,
+            "refused syntax 3\n",
         ),
         (
             "cut off inside a text",
