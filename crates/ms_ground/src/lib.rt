@@ -9,9 +9,9 @@ ghost use Rattle.ms_ground.specs.GroundRules.{AreGroundRules};
 mod names;
 mod rule;
 
-use ms_join::ground_rule::{GroundRule, GroundRules};
 use ms_base::memory::OutOfMemory;
 use ms_base::seq::Seq;
+use ms_join::ground_rule::{GroundRule, GroundRules};
 use ms_text::small_rule::{Names, SmallRule};
 use names::Base;
 use rule::ground_rule;

@@ -5,9 +5,9 @@ ghost use Rattle.ms_machine.specs.Grounding.{IsBaseOf, AreNumbers};
 ghost use Rattle.ms_ground.specs.Numbering.{AreNumbersOfAll, IsNumberOf, IsSetOf};
 
 use ms_base::atom_id::AtomId;
-use ms_join::ground_rule::AtomIds;
 use ms_base::memory::OutOfMemory;
 use ms_base::seq::{Bytes, Seq};
+use ms_join::ground_rule::AtomIds;
 use ms_text::small_rule::{Names, SmallRule};
 use std::alloc::Global;
 use std::marker::Model;

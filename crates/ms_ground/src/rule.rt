@@ -6,9 +6,9 @@ ghost use Rattle.ms_ground.specs.GroundRules.{IsGroundRuleOrNone};
 
 use crate::names::Base;
 use ms_base::atom_id::AtomId;
-use ms_join::ground_rule::{GroundKind, GroundRule};
 use ms_base::memory::OutOfMemory;
 use ms_base::seq::Bytes;
+use ms_join::ground_rule::{GroundKind, GroundRule};
 use ms_text::small_rule::SmallRule;
 use std::alloc::Global;
 

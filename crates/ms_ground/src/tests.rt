@@ -1,6 +1,6 @@
 use crate::ground;
-use ms_join::ground_rule::AtomIds;
 use ms_base::seq::{Bytes, Seq};
+use ms_join::ground_rule::AtomIds;
 use ms_text::small_rule::{Names, SmallRule};
 use std::alloc::Global;
 use std::test::Fail;

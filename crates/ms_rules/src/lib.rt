@@ -8,8 +8,8 @@ mod scratch;
 
 pub use answer_test::is_answer;
 pub use ms_base::atom_id::AtomId;
-pub use ms_join::ground_rule::{AtomIds, GroundKind, GroundRule, GroundRules, Rules};
 pub use ms_base::memory::OutOfMemory;
+pub use ms_join::ground_rule::{AtomIds, GroundKind, GroundRule, GroundRules, Rules};
 pub use scratch::Scratch;
 
 /// A set of atoms: their numbers in rising order.

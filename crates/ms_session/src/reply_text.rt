@@ -5,8 +5,8 @@ ghost use Rattle.ms_machine.specs.Replies.{answer_line, ending_line, line, refus
 ghost use Rattle.ms_machine.specs.declared.reply.Reply.TheVariants.{Grounded, Solved};
 
 use ms_base::memory::OutOfMemory;
-use ms_machine::reply::{Ending, Refusal, Reply};
 use ms_base::seq::{Bytes, Seq};
+use ms_machine::reply::{Ending, Refusal, Reply};
 
 /// Appends the text of a reply. Where there is no memory for it, a front of it was appended, or nothing.
 pub fn print(reply: &Reply, into: &mut Vec<u8>) -> Result<(), OutOfMemory>

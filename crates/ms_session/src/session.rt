@@ -4,14 +4,14 @@ ghost use Rattle.ms_machine.specs.Machine.{Step, start};
 
 use crate::shown::listing;
 use crate::text::{TextFault, read};
-use ms_command::command::Command;
-use ms_join::ground_rule::Rules;
 use ms_base::memory::OutOfMemory;
-use ms_machine::reply::{Refusal, Reply};
 use ms_base::seq::Seq;
-use ms_text::small_rule::{Names, SmallRule};
+use ms_command::command::Command;
 use ms_ground::ground;
+use ms_join::ground_rule::Rules;
+use ms_machine::reply::{Refusal, Reply};
 use ms_subsets::answer_sets;
+use ms_text::small_rule::{Names, SmallRule};
 use std::alloc::Global;
 use std::marker::Model;
 

@@ -7,8 +7,8 @@ ghost use Rattle.ms_machine.specs.Listing.{IsListing, IsShownList};
 ghost use Rattle.ms_session.specs.ShownLists.{AreShownLists};
 
 use ms_base::memory::OutOfMemory;
-use ms_machine::reply::Shown;
 use ms_base::seq::{Bytes, Seq};
+use ms_machine::reply::Shown;
 use ms_rules::AtomSet;
 use std::alloc::Global;
 

@@ -1,8 +1,8 @@
 ghost use Rattle.ms_session.specs.ReadText.{ReadsAs};
 
-use ms_text::small_rule::SmallRules;
 use ms_lex::{LexFault, lex};
 use ms_parse::{ParseFault, parse};
+use ms_text::small_rule::SmallRules;
 use std::alloc::Global;
 
 /// Why a text has no statements.

@@ -8,8 +8,8 @@ ghost use Rattle.ms_subsets.specs.Subsets.{KeepsAnswer};
 
 mod subsets;
 
-use ms_machine::reply::Ending;
 use ms_base::seq::Seq;
+use ms_machine::reply::Ending;
 use ms_rules::{AtomSet, OutOfMemory, Rules, Scratch, is_answer};
 use std::alloc::Global;
 use subsets::next_set;

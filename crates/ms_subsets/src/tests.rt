@@ -2,8 +2,8 @@ ghost use Rattle.std.specs.Prelude.{All, IfOk, ◌<◌};
 ghost use Rattle.ms_join.specs.AnswerSets.{IsRuleOver};
 
 use crate::answer_sets;
-use ms_machine::reply::Ending;
 use ms_base::seq::Seq;
+use ms_machine::reply::Ending;
 use ms_rules::{AtomId, AtomIds, GroundKind, GroundRule, OutOfMemory, Rules};
 use std::alloc::Global;
 use std::process::Abort;
