@@ -1,12 +1,14 @@
 -- The commands and bad lines of a script.
-use Rattle.std.specs.Prelude.{ℕ, ◌==◌, nat_eq, Bool, true, false, ◌||◌, ◌&&◌, List, [], ◌∷◌, ◌++◌, map, length, drop, take_while, Option, Some, None, Ok, Err, codes}
+use Rattle.std.specs.Prelude.{ℕ, ◌==◌, nat_eq, Bool, true, false, ◌||◌, ◌&&◌, List, [], ◌∷◌, ◌++◌, length, drop, slice_range, take_while, Option, Some, None, Ok, Err, codes}
 use Rattle.std.specs.List.{list_all, starts_with}
 use Rattle.std.specs.Cmp.Lexicographic.{pointwise}
 use Rattle.ms_command.specs.declared.command.Command.TheVariants.{Add, Ground, Solve}
 use Rattle.ms_command.specs.declared.command.ScriptItem.{ScriptItem}
 use Rattle.ms_command.specs.declared.command.ScriptItem.TheVariants.{Command as is_command, BadCommand, Unfinished}
 use Rattle.ms_text.specs.Tokens.{tokens_of, is_word}
-use Rattle.ms_text.specs.Grammar.{Word, named, word_not, word_if, word_comma, word_dot, word_other, word_of}
+use Rattle.ms_text.specs.declared.token.Token.{Token}
+use Rattle.ms_text.specs.declared.token.TokenKind.{TokenKind}
+use Rattle.ms_text.specs.declared.token.TokenKind.TheVariants.{Name}
 
 abbrev pub in_first_line : ℕ → List (List ℕ) → List (List ℕ)
 in_first_line b [] = (b ∷ []) ∷ []
@@ -39,18 +41,17 @@ pub data Operand : Type 0 where
   one_name : List ℕ → Operand
   something : Operand
 
-abbrev pub operand_by_words : List Word → Operand
-operand_by_words [] = nothing
-operand_by_words (named name ∷ []) = one_name name
-operand_by_words (named name ∷ w ∷ ws) = something
-operand_by_words (word_not ∷ ws) = something
-operand_by_words (word_if ∷ ws) = something
-operand_by_words (word_comma ∷ ws) = something
-operand_by_words (word_dot ∷ ws) = something
-operand_by_words (word_other ∷ ws) = something
+abbrev pub operand_by_kind : TokenKind → List ℕ → Operand
+operand_by_kind Name name = one_name name
+operand_by_kind kind name = something
+
+abbrev pub operand_by_tokens : List ℕ → List Token → Operand
+operand_by_tokens text [] = nothing
+operand_by_tokens text (t ∷ []) = operand_by_kind t.kind (slice_range text t.start t.end)
+operand_by_tokens text (t ∷ u ∷ ts) = something
 
 abbrev pub operand_of : List ℕ → Operand
-operand_of text = elim (tokens_of text) [ Err bad ↦ something | Ok tokens ↦ operand_by_words (map (word_of text) tokens) ]
+operand_of text = elim (tokens_of text) [ Err bad ↦ something | Ok tokens ↦ operand_by_tokens text tokens ]
 
 -- what a line outside a text is: passed over, the begin of a text, or an item by itself
 pub data Meaning : Type 0 where

@@ -5,7 +5,7 @@ use Rattle.std.specs.Prelude.{ℕ, ◌≡◌, ◌≢◌, ◌↔◌, List, Option
 use Rattle.std.specs.List.Sorted.{IsStrictlyIncreasing, IsStrictlySortedBy}
 use Rattle.std.specs.Ordering.{nat_cmp}
 use Rattle.std.specs.Cmp.Lexicographic.{slice_cmp}
-use Rattle.ms_text.specs.declared.small_rule.SmallRule.{SmallRule}
+use Rattle.ms_machine.specs.declared.plain.PlainRule.{PlainRule}
 use Rattle.ms_join.specs.declared.ground_rule.GroundRule.{GroundRule}
 use Rattle.ms_join.specs.declared.ground_rule.GroundKind.{GroundKind}
 use Rattle.ms_join.specs.declared.ground_rule.GroundKind.TheVariants.{Normal, Constraint}
@@ -15,7 +15,7 @@ abbrev pub AtomName : Type 0
 AtomName = List ℕ
 
 -- The base has exactly the heads of the rules, in term order. The number of an atom is its place there.
-pub record IsBaseOf (texts : List SmallRule) (names : List AtomName) : Type 0 where
+pub record IsBaseOf (texts : List PlainRule) (names : List AtomName) : Type 0 where
   pub ordered : IsStrictlySortedBy (slice_cmp nat_cmp) names
   pub heads : (name : AtomName) → Contains names name ↔ Any (λ rule. rule.head ≡ Some name) texts
 
@@ -30,7 +30,7 @@ IsNumberedHead names (Some name) kind number = (a : ℕ) × (kind ≡ Normal) ×
 
 -- The ground rule is the rule over the base: each positive atom is in the base, and the negated atoms
 -- outside it are deleted.
-pub record IsGroundRule (names : List AtomName) (text : SmallRule) (rule : GroundRule) : Type 0 where
+pub record IsGroundRule (names : List AtomName) (text : PlainRule) (rule : GroundRule) : Type 0 where
   pub head : IsNumberedHead names text.head rule.kind rule.head
   pub known : All (Contains names) text.pos
   pub pos : AreNumbers names text.pos rule.pos
@@ -38,7 +38,7 @@ pub record IsGroundRule (names : List AtomName) (text : SmallRule) (rule : Groun
 
 -- The module of the rules: its base, and the set of the ground rules of those whose positive atoms are all
 -- in the base.
-pub record IsModule (texts : List SmallRule) (names : List AtomName) (rules : List GroundRule) : Type 0 where
+pub record IsModule (texts : List PlainRule) (names : List AtomName) (rules : List GroundRule) : Type 0 where
   pub base : IsBaseOf texts names
   pub each : All (λ rule. Any (λ text. IsGroundRule names text rule) texts) rules
   pub every : All (λ text. All (Contains names) text.pos → Any (IsGroundRule names text) rules) texts

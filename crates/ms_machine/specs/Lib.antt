@@ -1,3 +1,4 @@
+pub mod Plain
 pub mod Grounding
 pub mod Listing
 pub mod Machine

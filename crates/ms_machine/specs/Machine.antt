@@ -1,6 +1,6 @@
 -- The machine that keeps only the accepted texts and the ground module, and solves it anew each time.
-use Rattle.std.specs.Prelude.{ℕ, ◌≡◌, ◌<◌, ◌≤◌, ◌++◌, Bool, true, false, List, [], ◌∷◌, length}
-use Rattle.ms_text.specs.declared.small_rule.SmallRule.{SmallRule}
+use Rattle.std.specs.Prelude.{ℕ, ◌≡◌, ◌<◌, ◌≤◌, ◌++◌, Bool, true, false, List, [], ◌∷◌, length, Some, None}
+use Rattle.ms_grammar.specs.declared.statement.Statement.{Statement}
 use Rattle.ms_join.specs.declared.ground_rule.GroundRule.{GroundRule}
 use Rattle.ms_command.specs.declared.command.Command.{Command}
 use Rattle.ms_command.specs.declared.command.Command.TheVariants.{Add, Ground, Solve}
@@ -8,14 +8,16 @@ use Rattle.ms_command.specs.declared.command.ScriptItem.{ScriptItem}
 use Rattle.ms_command.specs.declared.command.ScriptItem.TheVariants.{Command as is_command, BadCommand, Unfinished}
 use Rattle.ms_machine.specs.declared.reply.Reply.{Reply}
 use Rattle.ms_machine.specs.declared.reply.Reply.TheVariants.{Added, Grounded, Solved, Refused}
-use Rattle.ms_machine.specs.declared.reply.Refusal.TheVariants.{Command as bad_command, Unfinished as no_end, Syntax, Again, Small}
-use Rattle.ms_text.specs.Grammar.{Reads, IsNoText}
+use Rattle.ms_machine.specs.declared.reply.Refusal.TheVariants.{Command as bad_command, Unfinished as no_end, Syntax, Again, Later, Small}
+use Rattle.ms_grammar.specs.Statements.{Reads, IsNoText}
+use Rattle.ms_machine.specs.declared.plain.PlainRule.{PlainRule}
+use Rattle.ms_machine.specs.Plain.{plain_rules}
 use Rattle.ms_machine.specs.Grounding.{AtomName, IsModule}
 use Rattle.ms_machine.specs.Listing.{Solves, all_count}
 
 -- What the machine keeps: the accepted statements, whether they were grounded, the base and the rules.
 pub record State : Type 0 where
-  pub texts : List SmallRule
+  pub texts : List Statement
   pub is_grounded : Bool
   pub names : List AtomName
   pub rules : List GroundRule
@@ -32,12 +34,14 @@ most_tried = 20
 -- state as it is.
 abbrev pub Step : State → Command → Reply → State → Type 0
 Step old (Add text) (Added count) new =
-    (rules : List SmallRule) × Reads text rules × (count ≡ length rules) × (new ≡ record old { texts = old.texts ++ rules })
+    (statements : List Statement) × Reads text statements × (count ≡ length statements) × (new ≡ record old { texts = old.texts ++ statements })
 Step old (Add text) (Refused (Syntax line)) new = IsNoText text line × (new ≡ old)
 Step old Ground (Grounded atoms count) new =
     (old.is_grounded ≡ false)
-    × ((names : List AtomName) × (rules : List GroundRule) × IsModule old.texts names rules × (atoms ≡ length names)
-    × (count ≡ length rules) × (new ≡ record old { is_grounded = true; names = names; rules = rules }))
+    × ((plain : List PlainRule) × (plain_rules old.texts ≡ Some plain) × ((names : List AtomName) × (rules : List GroundRule)
+    × IsModule plain names rules × (atoms ≡ length names) × (count ≡ length rules) × (new ≡ record old { is_grounded = true; names = names; rules = rules })))
+-- a statement is none of plain names
+Step old Ground (Refused Later) new = (old.is_grounded ≡ false) × (plain_rules old.texts ≡ None) × (new ≡ old)
 Step old Ground (Refused Again) new = (old.is_grounded ≡ true) × (new ≡ old)
 Step old Solve (Solved ending count listing) new =
     (length old.names ≤ most_tried) × Solves old.names old.rules [] all_count ending count listing × (new ≡ old)

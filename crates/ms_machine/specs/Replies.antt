@@ -7,7 +7,7 @@ use Rattle.ms_machine.specs.declared.reply.Reply.TheVariants.{Added, Grounded, S
 use Rattle.ms_machine.specs.declared.reply.Ending.{Ending}
 use Rattle.ms_machine.specs.declared.reply.Ending.TheVariants.{Complete, StillOpen}
 use Rattle.ms_machine.specs.declared.reply.Refusal.{Refusal}
-use Rattle.ms_machine.specs.declared.reply.Refusal.TheVariants.{Command, Unfinished, Syntax, Again, Small}
+use Rattle.ms_machine.specs.declared.reply.Refusal.TheVariants.{Command, Unfinished, Syntax, Again, Later, Small}
 use Rattle.ms_machine.specs.Grounding.{AtomName}
 
 -- a text with its line end
@@ -27,6 +27,7 @@ refusal_line Command = line (codes "refused command")
 refusal_line Unfinished = line (codes "refused unfinished")
 refusal_line (Syntax at) = line (codes "refused syntax " ++ decimal at)
 refusal_line Again = line (codes "refused again")
+refusal_line Later = line (codes "refused later")
 refusal_line Small = line (codes "refused small")
 
 abbrev pub reply_text : Reply → List ℕ

@@ -20,6 +20,8 @@ pub enum Refusal {
     Syntax { line: u64 },
     /// The program was grounded before.
     Again,
+    /// A statement isn't of a form that is grounded yet.
+    Later,
     /// The base has too many atoms to try every set of them.
     Small,
 }

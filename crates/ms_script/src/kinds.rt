@@ -1,7 +1,6 @@
 // What a line outside a text is.
-ghost use Rattle.std.specs.Prelude.{◌≡◌, ◌≤◌, ◌↔◌, length, take_while, map, [], Ok, IfOk, IsTrue};
-ghost use Rattle.ms_text.specs.Grammar.{word_of};
-ghost use Rattle.ms_command.specs.Script.{is_space, skipped, meaning_of, meaning_after_spaces, meaning_of_command, operand_of, operand_by_words, one_name};
+ghost use Rattle.std.specs.Prelude.{◌≡◌, ◌≤◌, ◌↔◌, length, take_while, [], Ok, IfOk, IsTrue};
+ghost use Rattle.ms_command.specs.Script.{is_space, skipped, meaning_of, meaning_after_spaces, meaning_of_command, operand_of, operand_by_tokens, one_name};
 ghost use Rattle.ms_text.specs.Tokens.{tokens_of, LieWithin};
 ghost use Rattle.ms_script.specs.Kinds.{meaning_shown, operand_shown};
 
@@ -104,7 +103,7 @@ fn after_word(alloc: Global, text: &[u8]) -> Result<AfterWord<'_>, OutOfMemory>
 /// What these tokens of the text are.
 fn name_among<'a>(text: &'a [u8], tokens: &[Token]) -> AfterWord<'a>
     requires { LieWithin (length text.now) tokens.now }
-    ensures { operand_by_words (map (word_of text.now) tokens.now) ≡ operand_shown result }
+    ensures { operand_by_tokens text.now tokens.now ≡ operand_shown result }
 {
     match tokens {
         [] => AfterWord::Nothing,

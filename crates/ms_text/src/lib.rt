@@ -1,5 +1,4 @@
-// Tokens and statements, and the definitions of specs/ that say which tokens a text has and what they spell.
+// Tokens, and the definitions of specs/ that say which tokens a text has.
 #![tactic(auto)]
 
-pub mod small_rule;
 pub mod token;
