@@ -7,7 +7,7 @@ use Rattle.std.proofs.lemmas.List.Sorted.{All-permutation, Contains-permutation}
 use Rattle.std.proofs.lemmas.Option.{slice_get_within}
 use Rattle.std.specs.List.{All, Any, dedup}
 use Rattle.std.specs.List.Sorted.{IsPermutation, IsSorted}
-use Rattle.ms_text.specs.declared.small_rule.SmallRule.{SmallRule}
+use Rattle.ms_machine.specs.declared.plain.PlainRule.{PlainRule}
 use Rattle.ms_join.specs.declared.ground_rule.GroundRule.{GroundRule}
 use Rattle.ms_join.specs.declared.ground_rule.GroundKind.{GroundKind}
 use Rattle.ms_join.specs.contracts.ground_rule.GroundRulePartialEq.TheImpl as derived
@@ -25,8 +25,8 @@ use Rattle.ms_ground.proofs.SameRules.{same_rule}
 abbrev once_each : List GroundRule → List GroundRule
 once_each rules = dedup (derived.ghosts).eq rules
 
-module _ (names : List AtomName) (texts : List SmallRule) (rules sorted : List GroundRule) (moved : IsPermutation rules sorted) where
-  kept : (text : SmallRule) → Any (IsGroundRule names text) rules → Any (IsGroundRule names text) (once_each sorted)
+module _ (names : List AtomName) (texts : List PlainRule) (rules sorted : List GroundRule) (moved : IsPermutation rules sorted) where
+  kept : (text : PlainRule) → Any (IsGroundRule names text) rules → Any (IsGroundRule names text) (once_each sorted)
   kept text (k, rule, within, at, is) =
       let in_sorted = Contains-permutation rules sorted rule moved (k, within, at) in
       let (j, below, there) = Contains-dedup laws-law same_rule sorted rule in_sorted in
@@ -53,14 +53,14 @@ within_base names of numbers are k d within =
     let (name, listed, there) = (are.members (get_or numbers k d)).0 (Contains-get_or numbers k d within) in
     slice_get_within names (get_or numbers k d) name there
 
-IsRuleOver-ground : (names : List AtomName) (text : SmallRule) (rule : GroundRule) → IsGroundRule names text rule → IsRuleOver (length names) rule
+IsRuleOver-ground : (names : List AtomName) (text : PlainRule) (rule : GroundRule) → IsGroundRule names text rule → IsRuleOver (length names) rule
 IsRuleOver-ground names text rule is = record {
   head = HasHead-numbered names text.head rule.kind rule.head is.head;
   pos = within_base names text.pos rule.pos is.pos;
   neg = within_base names text.neg rule.neg is.neg;
 }
 
-pub over_base : {texts : List SmallRule} {names : List AtomName} {rules : List GroundRule} → IsModule texts names rules → All (IsRuleOver (length names)) rules
+pub over_base : {texts : List PlainRule} {names : List AtomName} {rules : List GroundRule} → IsModule texts names rules → All (IsRuleOver (length names)) rules
 over_base {texts} {names} {rules} module_of k d within =
     let (j, text, below, at, is) = module_of.each k d within in
     IsRuleOver-ground names text (get_or rules k d) is

@@ -4,7 +4,7 @@ use Rattle.std.proofs.lemmas.List.{get_or_append_left}
 use Rattle.std.proofs.lemmas.List.Elements.{All-push, All-weaker}
 use Rattle.std.proofs.lemmas.List.Quantifiers.{Any-push}
 use Rattle.std.specs.List.{All, Any, Contains}
-use Rattle.ms_text.specs.declared.small_rule.SmallRule.{SmallRule}
+use Rattle.ms_machine.specs.declared.plain.PlainRule.{PlainRule}
 use Rattle.ms_join.specs.declared.ground_rule.GroundRule.{GroundRule}
 use Rattle.ms_machine.specs.Grounding.{AtomName, IsGroundRule}
 use Rattle.ms_ground.specs.GroundRules.{AreGroundRules}
@@ -12,13 +12,13 @@ use Rattle.ms_ground.specs.GroundRules.{AreGroundRules}
 Any-append_left : {X : Type 0} (P : X → Type 0) (xs ys : List X) → Any P xs → Any P (xs ++ ys)
 Any-append_left P xs ys (k, x, within, at, holds) = (k, x, omega (arith, length-append xs ys), get_or_append_left xs ys x k within ∙ at, holds)
 
-abbrev IsOfOne : List AtomName → List SmallRule → GroundRule → Type 0
+abbrev IsOfOne : List AtomName → List PlainRule → GroundRule → Type 0
 IsOfOne names texts rule = Any (λ text. IsGroundRule names text rule) texts
 
-abbrev HasOne : List AtomName → List GroundRule → SmallRule → Type 0
+abbrev HasOne : List AtomName → List GroundRule → PlainRule → Type 0
 HasOne names rules text = All (Contains names) text.pos → Any (IsGroundRule names text) rules
 
-module _ {names : List AtomName} {texts : List SmallRule} {rules : List GroundRule} (text : SmallRule) (so_far : AreGroundRules names texts rules) where
+module _ {names : List AtomName} {texts : List PlainRule} {rules : List GroundRule} (text : PlainRule) (so_far : AreGroundRules names texts rules) where
   of_more : All (IsOfOne names (texts ++ text ∷ [])) rules
   of_more = All-weaker (IsOfOne names texts) (IsOfOne names (texts ++ text ∷ [])) (λ rule h. Any-append_left (λ t. IsGroundRule names t rule) texts (text ∷ []) h) rules so_far.each
 

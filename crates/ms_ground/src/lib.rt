@@ -11,8 +11,9 @@ mod rule;
 
 use ms_base::memory::OutOfMemory;
 use ms_base::seq::Seq;
+use ms_grammar::statement::Names;
 use ms_join::ground_rule::{GroundRule, GroundRules};
-use ms_text::small_rule::{Names, SmallRule};
+use ms_machine::plain::PlainRule;
 use names::Base;
 use rule::ground_rule;
 use std::alloc::Global;
@@ -27,7 +28,7 @@ pub struct NamedModule {
 
 /// The ground module of the rules over an empty base. It fails only for want of memory, which a base of
 /// more atoms than 32 bits can number also counts as.
-pub fn ground(alloc: Global, texts: &[SmallRule]) -> Result<NamedModule, OutOfMemory>
+pub fn ground(alloc: Global, texts: &[PlainRule]) -> Result<NamedModule, OutOfMemory>
     ensures exact { IfOk result (λ m. IsModule texts.now m.names m.rules) }
     ensures over_base { IfOk result (λ m. All (IsRuleOver (length m.names)) m.rules) }
 {
@@ -45,7 +46,7 @@ pub fn ground(alloc: Global, texts: &[SmallRule]) -> Result<NamedModule, OutOfMe
 fn ground_rules(
     alloc: Global,
     base: &Base,
-    texts: &[SmallRule],
+    texts: &[PlainRule],
 ) -> Result<Vec<GroundRule>, OutOfMemory>
     requires { IsBaseOf texts.now base.now }
     ensures { IfOk result (λ rules. AreGroundRules base.now texts.now rules.items) }

@@ -7,8 +7,9 @@ ghost use Rattle.ms_ground.specs.Numbering.{AreNumbersOfAll, IsNumberOf, IsSetOf
 use ms_base::atom_id::AtomId;
 use ms_base::memory::OutOfMemory;
 use ms_base::seq::{Bytes, Seq};
+use ms_grammar::statement::Names;
 use ms_join::ground_rule::AtomIds;
-use ms_text::small_rule::{Names, SmallRule};
+use ms_machine::plain::PlainRule;
 use std::alloc::Global;
 use std::marker::Model;
 
@@ -33,7 +34,7 @@ impl Model for Base {
 impl Base {
     /// The base of the heads of the rules, each of them once. A base of more atoms than have a number is
     /// answered as want of memory.
-    pub fn of_heads(alloc: Global, texts: &[SmallRule]) -> Result<Base, OutOfMemory>
+    pub fn of_heads(alloc: Global, texts: &[PlainRule]) -> Result<Base, OutOfMemory>
         ensures { IfOk result (IsBaseOf texts.now) }
     {
         let mut heads = heads(alloc, texts)?;
@@ -97,7 +98,7 @@ impl Base {
 }
 
 /// The heads of the rules, in the order of the text.
-fn heads(alloc: Global, texts: &[SmallRule]) -> Result<Vec<&Bytes>, OutOfMemory>
+fn heads(alloc: Global, texts: &[PlainRule]) -> Result<Vec<&Bytes>, OutOfMemory>
     ensures { IfOk result (λ heads. map (λ head. head.now) heads.items ≡ filter_map (λ rule. rule.head) texts.now) }
 {
     let mut heads = Vec::new(alloc);

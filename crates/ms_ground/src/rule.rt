@@ -9,14 +9,14 @@ use ms_base::atom_id::AtomId;
 use ms_base::memory::OutOfMemory;
 use ms_base::seq::Bytes;
 use ms_join::ground_rule::{GroundKind, GroundRule};
-use ms_text::small_rule::SmallRule;
+use ms_machine::plain::PlainRule;
 use std::alloc::Global;
 
 /// The ground rule of a rule whose head is in the base, or none where a positive atom is outside it.
 pub fn ground_rule(
     alloc: Global,
     base: &Base,
-    text: &SmallRule,
+    text: &PlainRule,
 ) -> Result<Option<GroundRule>, OutOfMemory>
     requires { ForSome text.now.head (Contains base.now) }
     ensures { IfOk result (IsGroundRuleOrNone base.now text.now) }

@@ -1,7 +1,8 @@
 use crate::ground;
 use ms_base::seq::{Bytes, Seq};
+use ms_grammar::statement::Names;
 use ms_join::ground_rule::AtomIds;
-use ms_text::small_rule::{Names, SmallRule};
+use ms_machine::plain::PlainRule;
 use std::alloc::Global;
 use std::test::Fail;
 
@@ -21,10 +22,10 @@ fn names(alloc: Global, text: &str) -> Result<Names, Fail> {
     Ok(names)
 }
 
-fn small_rules(alloc: Global, program: Program) -> Result<Vec<SmallRule>, Fail> {
+fn plain_rules(alloc: Global, program: Program) -> Result<Vec<PlainRule>, Fail> {
     let mut rules = Vec::new(alloc);
     for (head, pos, neg) in program {
-        rules.push(SmallRule {
+        rules.push(PlainRule {
             head: if head.is_empty() {
                 None
             } else {
@@ -32,7 +33,6 @@ fn small_rules(alloc: Global, program: Program) -> Result<Vec<SmallRule>, Fail> 
             },
             pos: names(alloc, pos)?,
             neg: names(alloc, neg)?,
-            line: 1,
         })?;
     }
     Ok(rules)
@@ -48,7 +48,7 @@ fn write_numbers(text: &mut String, sign: char, numbers: &AtomIds) -> Result<(),
 
 /// The names of the module, and after a semicolon each rule: its head, and the atoms of its body under a sign.
 fn shown(alloc: Global, program: Program) -> Result<String, Fail> {
-    let rules = small_rules(alloc, program)?;
+    let rules = plain_rules(alloc, program)?;
     let module = ground(alloc, rules.as_slice())?;
     let mut text = String::new(alloc);
     for name in module.names.as_slice() {

@@ -61,6 +61,7 @@ fn print_refusal(refusal: Refusal, into: &mut Vec<u8>) -> Result<(), OutOfMemory
         Refusal::Unfinished => put(b"refused unfinished\n", into),
         Refusal::Syntax { line } => print_counted("refused syntax ", line, into),
         Refusal::Again => put(b"refused again\n", into),
+        Refusal::Later => put(b"refused later\n", into),
         Refusal::Small => put(b"refused small\n", into),
     }
 }
@@ -170,11 +171,12 @@ mod tests {
         replies.push(Reply::Refused(Refusal::Unfinished))?;
         replies.push(Reply::Refused(Refusal::Syntax { line: 70 }))?;
         replies.push(Reply::Refused(Refusal::Again))?;
+        replies.push(Reply::Refused(Refusal::Later))?;
         replies.push(Reply::Refused(Refusal::Small))?;
         Ok(replies)
     }
 
-    const TEXTS: [&str; 12] = [
+    const TEXTS: [&str; 13] = [
         "added 0\n",
         "added 18446744073709551615\n",
         "grounded atoms=3 rules=12\n",
@@ -186,6 +188,7 @@ mod tests {
         "refused unfinished\n",
         "refused syntax 70\n",
         "refused again\n",
+        "refused later\n",
         "refused small\n",
     ];
 

@@ -7,11 +7,12 @@ use crate::text::{TextFault, read};
 use ms_base::memory::OutOfMemory;
 use ms_base::seq::Seq;
 use ms_command::command::Command;
+use ms_grammar::statement::{Names, Statement};
 use ms_ground::ground;
 use ms_join::ground_rule::Rules;
 use ms_machine::reply::{Refusal, Reply};
+use ms_plain::plain_rules;
 use ms_subsets::answer_sets;
-use ms_text::small_rule::{Names, SmallRule};
 use std::alloc::Global;
 use std::marker::Model;
 
@@ -24,7 +25,7 @@ pub const MOST_TRIED: usize = 20;
 /// A solver that lives on while its program grows. Contracts see it as the state of the machine.
 #[derive(Debug, Drop)]
 pub struct Session {
-    texts: Vec<SmallRule>,
+    texts: Vec<Statement>,
     is_grounded: bool,
     names: Names,
     rules: Rules,
@@ -33,8 +34,13 @@ pub struct Session {
 impl Model for Session {
     ghost use Rattle.ms_machine.specs.Machine.{State};
     ghost use Rattle.ms_session.specs.Sound.{IsSound};
+    ghost use Rattle.ms_grammar.specs.contracts.term.TextTerm as t;
+    ghost use Rattle.ms_grammar.specs.contracts.value.Value as v;
+    ghost use Rattle.std.specs.Coded.{codes};
 
     ghost Value = { State };
+
+    ghost coded = { Prim.hlevel (codes, t.the_row.coded, v.the_row.coded) };
 
     ghost view = { λ s. record { texts = s.texts.items; is_grounded = s.is_grounded; names = s.names; rules = s.rules.rules } };
 
@@ -72,15 +78,15 @@ impl Session {
         ensures step { IfOk result (λ reply. Step self.old (Add text.now) reply self.new) }
         ensures err { OnErr result (self.new ≡ self.old) }
     {
-        let rules = match read(alloc, text) {
-            Ok(rules) => rules,
+        let statements = match read(alloc, text) {
+            Ok(statements) => statements,
             Err(TextFault::Syntax { line }) => {
                 return Ok(Reply::Refused(Refusal::Syntax { line }));
             }
             Err(TextFault::OutOfMemory) => return Err(OutOfMemory),
         };
-        let count = rules.len() as u64;
-        self.texts.append(&mut rules.into_vec())?;
+        let count = statements.len() as u64;
+        self.texts.append(&mut statements.into_vec())?;
         Ok(Reply::Added { count })
     }
 
@@ -91,7 +97,10 @@ impl Session {
         if self.is_grounded {
             return Ok(Reply::Refused(Refusal::Again));
         }
-        let module = ground(alloc, self.texts.as_slice())?;
+        let Some(plain) = plain_rules(alloc, self.texts.as_slice())? else {
+            return Ok(Reply::Refused(Refusal::Later));
+        };
+        let module = ground(alloc, plain.as_slice())?;
         let atoms = module.names.len() as u64;
         let rules = module.rules.len() as u64;
         self.names = module.names;

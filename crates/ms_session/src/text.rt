@@ -1,8 +1,7 @@
 ghost use Rattle.ms_session.specs.ReadText.{ReadsAs};
 
 use ms_lex::{LexFault, lex};
-use ms_parse::{ParseFault, parse};
-use ms_text::small_rule::SmallRules;
+use ms_parse::{ParseFault, Statements, parse};
 use std::alloc::Global;
 
 /// Why a text has no statements.
@@ -14,7 +13,7 @@ pub enum TextFault {
 }
 
 /// The statements of a text, exactly by the grammar, or the line at which it leaves it.
-pub fn read(alloc: Global, text: &[u8]) -> Result<SmallRules, TextFault>
+pub fn read(alloc: Global, text: &[u8]) -> Result<Statements, TextFault>
     ensures { ReadsAs result text.now }
 {
     let tokens = match lex(alloc, text) {
@@ -23,7 +22,7 @@ pub fn read(alloc: Global, text: &[u8]) -> Result<SmallRules, TextFault>
         Err(LexFault::OutOfMemory) => return Err(TextFault::OutOfMemory),
     };
     match parse(alloc, text, &tokens) {
-        Ok(rules) => Ok(rules),
+        Ok(statements) => Ok(statements),
         Err(ParseFault::BadStatement { line }) => Err(TextFault::Syntax { line }),
         Err(ParseFault::OutOfMemory) => Err(TextFault::OutOfMemory),
     }
