@@ -49,7 +49,7 @@ fn scripts_have_their_replies(rt: HostRuntime) -> Result<(), Fail> {
     let refused = Status::SomeRefused;
     let facts =
         b"@add\na1. a2. a3. a4. a5. a6. a7. a8. a9. a10. a11. a12. a13. a14. a15. a16. a17. a18. a19. a20. a21.\n@end\n@ground base\n@ground base\n@solve all\n";
-    let rows: [(&str, &[u8], Status, &str); 18] = [
+    let rows: [(&str, &[u8], Status, &str); 26] = [
         ("empty input", b"", done, ""),
         ("blanks and a comment", b" \t\n\r\n% @add\n", done, ""),
         ("two answers", TWO_RULES.as_bytes(), done, TWO_REPLIES),
@@ -90,10 +90,58 @@ fn scripts_have_their_replies(rt: HostRuntime) -> Result<(), Fail> {
             "refused syntax 3\nrefused command\n",
         ),
         (
-            "tokens that no statement has",
-            b"@add\na.\np(1).\n@end\n",
+            "arguments wait for a later grounding",
+            b"@add\na.\np(1).\n@end\n@ground base\n@solve all\n",
             refused,
-            "refused syntax 2\n",
+            "added 2\nrefused later\nanswer:\ncomplete 1\n",
+        ),
+        (
+            "a variable begins no token",
+            b"@add\n#program step(t,u). #external p(t). #const n = -3. #show p/2. #show. #include <incmode>.\n:- . a() :- b; not c, 1..2 < |x-3|. { p(1;2) : q, not r; s } <= 2. 1 #count { 1,(2,) : a } 3 :- not 2 < #sum { -X }.\n@end\n",
+            refused,
+            "refused syntax 3\n",
+        ),
+        (
+            "each form of a statement that there is",
+            b"@add\n#program step(t,u). #external p(t). #const n = -3. #show p/2. #show. #include <incmode>.\n:- . a() :- b; not c, 1..2 < |x-3|. { p(1;2) : q, not r; s } <= 2. :- not 2 < #sum { -x, \"y\" : }.\n@end\n",
+            done,
+            "added 10\n",
+        ),
+        (
+            "a constraint without a body, and empty parentheses",
+            b"@add\na(). b :- a; not c.\n@end\n@add\n:- .\n@end\n@ground base\n@solve all\n",
+            done,
+            "added 2\nadded 1\ngrounded atoms=2 rules=3\ncomplete 0\n",
+        ),
+        (
+            "a comparison waits",
+            b"@add\n:- 1 < 2.\n@end\n@ground base\n",
+            refused,
+            "added 1\nrefused later\n",
+        ),
+        (
+            "a choice waits",
+            b"@add\na. {b}.\n@end\n@ground base\n@ground base\n",
+            refused,
+            "added 2\nrefused later\nrefused later\n",
+        ),
+        (
+            "a directive waits",
+            b"@add\na.\n@end\n@add\n#show.\n@end\n@ground base\n",
+            refused,
+            "added 1\nadded 1\nrefused later\n",
+        ),
+        (
+            "pieces that no statement is",
+            b"@add\na.\n.\n@end\n@add\np(9223372036854775808).\n@end\n@add\na :- not not b.\n@end\n@add\n\na..b.\n@end\n",
+            refused,
+            "refused syntax 2\nrefused syntax 1\nrefused syntax 1\nrefused syntax 2\n",
+        ),
+        (
+            "directives that are none",
+            b"@add\n#show p/-1.\n@end\n@add\n#program p(x,x).\n@end\n@add\n#const n==1.\n@end\n",
+            refused,
+            "refused syntax 1\nrefused syntax 1\nrefused syntax 1\n",
         ),
         (
             "an unfinished string",
