@@ -8,6 +8,15 @@ ghost use Rattle.ms_grammar.specs.Words.{words_of};
 ghost use Rattle.ms_grammar.specs.Terms.{Term, term_words, term_part};
 ghost use Rattle.ms_grammar.specs.Reading.{EndsTerm, IsRead};
 
+mod level;
+mod make;
+mod row;
+mod bracket;
+mod frames;
+mod reader;
+mod number;
+mod string;
+
 pub use ms_base::memory::OutOfMemory;
 use ms_grammar::part::Part;
 use ms_text::token::Token;

@@ -1,0 +1,3 @@
+pub mod Closing
+pub mod Brackets
+pub mod Machine
