@@ -1,1 +1,5 @@
--- none yet
+mod Quoted
+mod Numerals
+mod Steps
+mod Complete
+mod Sound

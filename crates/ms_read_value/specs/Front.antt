@@ -23,9 +23,7 @@ read_from reader (w ∷ ws) = elim (step_at reader.place reader.groups (lexeme_o
 ]
 
 abbrev pub read_on : Progress → List Word → Option (ValuePart × List Word)
-read_on (Within reader) ws = read_from reader ws
-read_on (Done part) ws = Some (part, ws)
-read_on Failed ws = None
+read_on progress ws = elim progress [ Within reader ↦ read_from reader ws | Done part ↦ Some (part, ws) | Failed ↦ None ]
 
 abbrev pub arguments_by : Lexeme → List ℕ → List Word → Option (ValuePart × List Word)
 arguments_by Open f ws = read_from (record { groups = opened (Some f) ∷ []; place = First }) ws

@@ -116,7 +116,7 @@ fn read_on(
             Progress::Done(part) => return Ok(Some((part, rest.len()))),
             Progress::Failed => return Ok(None),
             Progress::Within(reader) => {
-                let [token, after @ ..] = rest else {
+                let Some((token, after)) = rest.split_first() else {
                     return Ok(None);
                 };
                 progress = reader.step(alloc, lexeme_at(alloc, text, *token)?)?;

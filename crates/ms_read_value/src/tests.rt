@@ -4,7 +4,7 @@ ghost use Rattle.ms_text.specs.Tokens.{LieWithin};
 use crate::read_front;
 use ms_grammar::value::Value;
 use ms_lex::{Token, lex};
-use std::process::Abort;
+use std::alloc::Global;
 use std::test::Fail;
 
 /// What a value is at its top.
@@ -225,7 +225,7 @@ fn reads_fronts(rt: HostRuntime) -> Result<(), Fail> {
 }
 
 /// `f(f(..1..))` with so many names.
-fn nested(rt: &impl Abort, alloc: Global, names: usize) -> Result<Vec<u8>, Fail> {
+fn nested(alloc: Global, names: usize) -> Result<Vec<u8>, Fail> {
     let mut text = Vec::new(alloc);
     for _ in 0..names {
         text.push(b'f')?;
@@ -236,4 +236,27 @@ fn nested(rt: &impl Abort, alloc: Global, names: usize) -> Result<Vec<u8>, Fail>
         text.push(b')')?;
     }
     Ok(text)
+}
+
+#[test]
+fn limits_heights(rt: HostRuntime) -> Result<(), Fail> {
+    for (names, height, count) in [(198, 199, 595), (199, 200, 598), (200, 1, 1), (201, 1, 1)] {
+        let text = nested(rt.alloc(), names)?;
+        let tokens = lex(rt.alloc(), text.as_slice()).ok().ok_or("tokens")?;
+        let front = read_front(rt.alloc(), text.as_slice(), tokens.as_slice())?;
+        let (part, read) = front.ok_or("a value")?;
+        assert_eq!(rt; (part.height, read), (height, count), "{names} names");
+    }
+    Ok(())
+}
+
+#[test]
+fn refuses_a_million_of_open_brackets(rt: HostRuntime) -> Result<(), Fail> {
+    for (word, count) in [("f(", Some(1)), ("(", None), ("f((", Some(1))] {
+        let text = word.repeat(rt.alloc(), 40_000)?;
+        let tokens = lex(rt.alloc(), text.as_bytes()).ok().ok_or("tokens")?;
+        let front = read_front(rt.alloc(), text.as_bytes(), tokens.as_slice())?;
+        assert_eq!(rt; front.map(|(_, read)| read), count, "{word}");
+    }
+    Ok(())
 }
