@@ -2,7 +2,6 @@
 use Rattle.std.proofs.Common.{◌≡◌, ℕ, List, [], ◌∷◌, ◌++◌, Option, Some, None, refl, ap, sym, ◌∙◌, append_assoc}
 use Rattle.std.specs.Option.{option_map, option_and_then}
 use Rattle.ms_text.specs.declared.token.TokenKind.TheVariants as kind
-use Rattle.ms_grammar.specs.declared.value.Value.{Function}
 use Rattle.ms_grammar.specs.declared.part.ValuePart.{ValuePart}
 use Rattle.ms_grammar.specs.declared.part.ValueRow.{ValueRow}
 use Rattle.ms_grammar.specs.Terms.{both}
@@ -17,7 +16,7 @@ use Rattle.ms_read_value.specs.Lexemes.{lexeme_of}
 use Rattle.ms_read_value.specs.Machine.{opened, with_part, closed, closed_by_comma, behind, behind_some, leave, begin, step_at}
 use Rattle.ms_read_value.specs.Front.{read_on}
 use Rattle.ms_read_value.proofs.Numerals.{numeral-least, negative-least}
-use Rattle.ms_read_value.proofs.Steps.{found_at, found_at-word, found_at-end, found_after, found_from}
+use Rattle.ms_read_value.proofs.Steps.{constant_part, found_at, found_at-word, found_at-end, found_after, found_from}
 
 -- The words don't carry on the value: a name outside of brackets is never taken for whole.
 abbrev pub EndsAfter : Spelling → List Group → List Word → Type 0
@@ -54,9 +53,6 @@ next_begins (function f vs) groups ws = found_at-word Comma groups (name f) _
 next_begins empty_tuple groups ws = found_at-word Comma groups (sign kind.LeftParen) _
 next_begins (tuple vs) groups ws = found_at-word Comma groups (sign kind.LeftParen) _
 next_begins (tuple_comma vs) groups ws = found_at-word Comma groups (sign kind.LeftParen) _
-
-abbrev pub constant_part : List ℕ → ValuePart
-constant_part f = record { value = Function f []; height = 1 }
 
 -- a word other than an opening bracket makes of a name what it makes of a value
 name_follows : (f : List ℕ) (group : Group) (groups : List Group) (w : Word) (ws : List Word) → EndsValue (w ∷ ws)
@@ -109,7 +105,7 @@ closed_row_by_comma (Some row) groups ws =
     ∙ found_at-word Comma (record { name = None; row = row } ∷ groups) (sign kind.RightParen) ws
 
 -- a name with an opening bracket
-opens_arguments : (f : List ℕ) (groups : List Group) (ws : List Word) → found_at (Name f) groups (sign kind.LeftParen ∷ ws) ≡ found_at First (opened (Some f) ∷ groups) ws
+pub opens_arguments : (f : List ℕ) (groups : List Group) (ws : List Word) → found_at (Name f) groups (sign kind.LeftParen ∷ ws) ≡ found_at First (opened (Some f) ∷ groups) ws
 opens_arguments f groups ws = found_at-word (Name f) groups (sign kind.LeftParen) ws
 
 -- a comma and one more value

@@ -3,3 +3,4 @@ mod Numerals
 mod Steps
 mod Complete
 mod Sound
+mod Fronts

@@ -1,5 +1,6 @@
 -- What is read is spelled so: the words so far are spelled by what is pending, and each word keeps that.
-use Rattle.std.proofs.Common.{◌≡◌, ℕ, List, [], ◌∷◌, ◌++◌, ◌⊎◌, inl, inr, Option, Some, None, refl, ap, sym, ◌∙◌, subst, append_assoc}
+use Rattle.std.proofs.Common.{◌≡◌, ℕ, List, [], ◌∷◌, ◌++◌, ◌⊎◌, inl, inr, Option, Some, None, refl, ap, sym, ◌∙◌, subst, append_assoc, append-nil}
+use Rattle.std.proofs.lemmas.Option.{none-some, some_pair_parts}
 use Rattle.std.specs.Option.{option_map, option_and_then}
 use Rattle.ms_text.specs.declared.token.TokenKind.TheVariants as kind
 use Rattle.ms_grammar.specs.declared.part.ValuePart.{ValuePart}
@@ -13,10 +14,10 @@ use Rattle.ms_read_value.specs.declared.reader.Place.TheVariants.{First, Comma, 
 use Rattle.ms_read_value.specs.declared.reader.Progress.{Progress}
 use Rattle.ms_read_value.specs.declared.reader.Progress.TheVariants.{Within, Done, Failed}
 use Rattle.ms_read_value.specs.Lexemes.{lexeme_of}
-use Rattle.ms_read_value.specs.Machine.{opened, with_part, closed, closed_by_comma, behind, behind_some, leave, leave_by_comma, begin, follow, step_at}
+use Rattle.ms_read_value.specs.Machine.{opened, with_part, closed, closed_by_comma, behind, behind_some, leave, leave_by_comma, begin, follow, follow_name, step_at}
 use Rattle.ms_read_value.specs.Front.{read_on}
 use Rattle.ms_read_value.proofs.Numerals.{numeral-least, negative-least}
-use Rattle.ms_read_value.proofs.Steps.{found_at, found_at-word, found_at-end}
+use Rattle.ms_read_value.proofs.Steps.{constant_part, found_at-word, found_at-end}
 
 -- the words that open a bracket
 abbrev pub opening : Option (List ℕ) → List Word
@@ -158,3 +159,118 @@ follow-leads (group ∷ groups) words s (sign kind.Comma) = record {
 }
 follow-leads (group ∷ groups) words s (sign kind.RightParen) = values-closed group.name group.row groups words s
 follow-leads (group ∷ groups) words s (sign other) = tt
+
+-- a word behind a name
+outside-name : (f : List ℕ) (groups : List Group) (words : List Word) (s : Splits (Standing groups) (λ inside. inside ≡ name f ∷ []) words) → s.outside ++ name f ∷ [] ≡ words
+outside-name f groups words s = ap (λ inside. s.outside ++ inside) (sym s.inner) ∙ sym s.words_are
+
+constant-leads : (f : List ℕ) (groups : List Group) (words : List Word) → StandsAt (Name f) groups words → (w : Word) → Leads (follow_name (behind_some (value_part (constant f)) groups) (lexeme_of w)) (words ++ w ∷ [])
+unfolding StandsAt
+constant-leads f [] words s w = tt
+constant-leads f (group ∷ groups) words s w =
+    let inside : List Group = with_part group (constant_part f) ∷ groups in
+    follow-leads inside words (subst (StandsAt Value inside) (outside-name f (group ∷ groups) words s) (behind-leads (group ∷ groups) s.outside s.outer (constant f) (constant_part f) refl)) w
+
+name-leads : (f : List ℕ) (groups : List Group) (words : List Word) → StandsAt (Name f) groups words → (w : Word) → Leads (step_at (Name f) groups (lexeme_of w)) (words ++ w ∷ [])
+unfolding StandsAt
+name-leads f groups words s (name g) = constant-leads f groups words s (name g)
+name-leads f groups words s (number n) = constant-leads f groups words s (number n)
+name-leads f groups words s (quoted t) = constant-leads f groups words s (quoted t)
+name-leads f groups words s (sign kind.LeftParen) = record {
+  outside = s.outside;
+  inside = opening (Some f);
+  outer = s.outer;
+  inner = record { row_is = refl; words_are = refl };
+  words_are = ap (λ ws. ws ++ sign kind.LeftParen ∷ []) (sym (outside-name f groups words s)) ∙ append_assoc s.outside (name f ∷ []) (sign kind.LeftParen ∷ []);
+}
+name-leads f groups words s (sign other) = constant-leads f groups words s (sign other)
+
+-- a word behind a minus
+minus-leads : (groups : List Group) (words : List Word) → StandsAt Minus groups words → (w : Word) → Leads (step_at Minus groups (lexeme_of w)) (words ++ w ∷ [])
+unfolding StandsAt
+minus-leads groups words s (number n) =
+    let whole : s.outside ++ value_words (negative n) ≡ words ++ number n ∷ [] =
+        sym (append_assoc s.outside (sign kind.Minus ∷ []) (number n ∷ []))
+        ∙ ap (λ inside. (s.outside ++ inside) ++ number n ∷ []) (sym s.inner)
+        ∙ ap (λ ws. ws ++ number n ∷ []) (sym s.words_are) in
+    subst (Leads (step_at Minus groups (lexeme_of (number n)))) whole (behind_some-leads groups s.outside s.outer (negative n) _ (sym (negative-least n)))
+minus-leads groups words s (name f) = tt
+minus-leads groups words s (quoted t) = tt
+minus-leads groups words s (sign kind.Minus) = tt
+minus-leads groups words s (sign other) = tt
+
+-- a word behind an opening bracket
+first_or_close : (groups : List Group) (words : List Word) → Leads (leave groups) (words ++ sign kind.RightParen ∷ []) → Standing groups words → (w : Word) → Leads (step_at First groups (lexeme_of w)) (words ++ w ∷ [])
+first_or_close groups words closes s (name f) = begin-leads groups words s (name f)
+first_or_close groups words closes s (number n) = begin-leads groups words s (number n)
+first_or_close groups words closes s (quoted t) = begin-leads groups words s (quoted t)
+first_or_close groups words closes s (sign kind.RightParen) = closes
+first_or_close groups words closes s (sign other) = begin-leads groups words s (sign other)
+
+first-leads : (groups : List Group) (words : List Word) → StandsAt First groups words → (w : Word) → Leads (step_at First groups (lexeme_of w)) (words ++ w ∷ [])
+unfolding Standing StandsAt
+first-leads [] words s w = absurd s
+first-leads (group ∷ groups) words s w =
+    let standing : Standing (group ∷ groups) words = record { outside = s.outside; inside = s.inside; outer = s.outer; inner = inl s.inner; words_are = s.words_are } in
+    first_or_close (group ∷ groups) words (new-closed group.name group.row groups words s) standing w
+
+-- and behind a comma
+next_or_close : (groups : List Group) (words : List Word) → Leads (leave_by_comma groups) (words ++ sign kind.RightParen ∷ []) → Standing groups words → (w : Word) → Leads (step_at Comma groups (lexeme_of w)) (words ++ w ∷ [])
+next_or_close groups words closes s (name f) = begin-leads groups words s (name f)
+next_or_close groups words closes s (number n) = begin-leads groups words s (number n)
+next_or_close groups words closes s (quoted t) = begin-leads groups words s (quoted t)
+next_or_close groups words closes s (sign kind.RightParen) = closes
+next_or_close groups words closes s (sign other) = begin-leads groups words s (sign other)
+
+comma-leads : (groups : List Group) (words : List Word) → StandsAt Comma groups words → (w : Word) → Leads (step_at Comma groups (lexeme_of w)) (words ++ w ∷ [])
+unfolding Standing StandsAt
+comma-leads [] words s w = absurd s
+comma-leads (group ∷ groups) words s w =
+    let standing : Standing (group ∷ groups) words = record { outside = s.outside; inside = s.inside; outer = s.outer; inner = inr s.inner; words_are = s.words_are } in
+    next_or_close (group ∷ groups) words (comma-closed group.name group.row groups words s) standing w
+
+step-leads : (place : Place) (groups : List Group) (words : List Word) → StandsAt place groups words → (w : Word) → Leads (step_at place groups (lexeme_of w)) (words ++ w ∷ [])
+step-leads First groups words s w = first-leads groups words s w
+step-leads Comma groups words s w = comma-leads groups words s w
+step-leads Minus groups words s w = minus-leads groups words s w
+step-leads (Name f) groups words s w = name-leads f groups words s w
+step-leads Value groups words s w = follow-leads groups words s w
+
+-- a name with an opening bracket
+pub opening-leads : (f : List ℕ) → StandsAt First (opened (Some f) ∷ []) (opening (Some f))
+unfolding Standing StandsAt
+opening-leads f = record { outside = []; inside = opening (Some f); outer = refl; inner = record { row_is = refl; words_are = refl }; words_are = refl }
+
+-- a value where no word was read
+pub front-leads : (w : Word) → Leads (begin [] (lexeme_of w)) (w ∷ [])
+unfolding Standing
+front-leads w = begin-leads [] [] refl w
+
+-- The words lead to a value, and the rest follows.
+pub record Finds (words ws : List Word) (part : ValuePart) (rest : List Word) : Type 0 where
+  pub more : List Word
+  pub spells : Spells part (words ++ more)
+  pub words_are : ws ≡ more ++ rest
+
+pub finds_more : (words : List Word) (w : Word) (ws : List Word) (part : ValuePart) (rest : List Word) → Finds (words ++ w ∷ []) ws part rest → Finds words (w ∷ ws) part rest
+finds_more words w ws part rest f = record {
+  more = w ∷ f.more;
+  spells = subst (Spells part) (append_assoc words (w ∷ []) f.more) f.spells;
+  words_are = ap (λ x. w ∷ x) f.words_are;
+}
+
+pub finds_here : (words ws : List Word) (found part : ValuePart) (rest : List Word) → Spells found words → found ≡ part → ws ≡ rest → Finds words ws part rest
+finds_here words ws found part rest s e f = record {
+  more = [];
+  spells = subst (λ p. Spells p (words ++ [])) e (subst (Spells found) (sym (append-nil words)) s);
+  words_are = f;
+}
+
+pub sound : (ws : List Word) (progress : Progress) (words : List Word) → Leads progress words → (part : ValuePart) (rest : List Word) → read_on progress ws ≡ Some (part, rest) → Finds words ws part rest
+sound ws (Done found) words s part rest e = let parts = some_pair_parts found part ws rest e in finds_here words ws found part rest s parts.0 parts.1
+sound ws Failed words s part rest e = absurd (none-some (part, rest) e)
+sound [] (Within reader) words s part rest e = absurd (none-some (part, rest) (sym (found_at-end reader.place reader.groups) ∙ e))
+sound (w ∷ ws) (Within reader) words s part rest e =
+    finds_more words w ws part rest
+    (sound ws (step_at reader.place reader.groups (lexeme_of w)) (words ++ w ∷ []) (step-leads reader.place reader.groups words s w) part rest
+    (sym (found_at-word reader.place reader.groups w ws) ∙ e))

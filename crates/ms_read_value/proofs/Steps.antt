@@ -1,5 +1,6 @@
 -- One word after another.
 use Rattle.std.proofs.Common.{◌≡◌, ℕ, List, [], ◌∷◌, Option, Some, None, refl}
+use Rattle.ms_grammar.specs.declared.value.Value.{Function}
 use Rattle.ms_grammar.specs.declared.part.ValuePart.{ValuePart}
 use Rattle.ms_grammar.specs.Words.{Word}
 use Rattle.ms_read_value.specs.declared.groups.Group.{Group}
@@ -7,6 +8,10 @@ use Rattle.ms_read_value.specs.declared.reader.Place.{Place}
 use Rattle.ms_read_value.specs.Lexemes.{lexeme_of}
 use Rattle.ms_read_value.specs.Machine.{behind_some, step_at, within, begin}
 use Rattle.ms_read_value.specs.Front.{read_on}
+
+-- a name without arguments
+abbrev pub constant_part : List ℕ → ValuePart
+constant_part f = record { value = Function f []; height = 1 }
 
 -- what is found from a place on
 abbrev pub found_at : Place → List Group → List Word → Option (ValuePart × List Word)
