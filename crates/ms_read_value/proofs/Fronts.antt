@@ -4,6 +4,7 @@ use Rattle.std.proofs.Math.Seq.{take-append_seam}
 use Rattle.std.proofs.lemmas.List.{take-append-drop, length-take}
 use Rattle.std.proofs.lemmas.Option.{none-some, some_pair_parts, same_Some}
 use Rattle.std.specs.Option.{option_map, option_or, IfSome, IsSomeAnd}
+use Rattle.std.specs.Prelude.{Result, Ok, Err, IfOk}
 use Rattle.ms_text.specs.declared.token.TokenKind.TheVariants as kind
 use Rattle.ms_grammar.specs.declared.part.ValuePart.{ValuePart}
 use Rattle.ms_grammar.specs.Words.{Word, name, number, quoted, sign}
@@ -165,3 +166,11 @@ is_longest ws = record {
   sound = counted-sound ws (front ws) refl;
   longest = covers_front ws;
 }
+
+pub longest_if_ok : {E : Type 0} (ws : List Word) (found : Result (Option (ValuePart × ℕ)) E) → IfOk found (λ f. f ≡ counted ws) → IfOk found (IsLongest Spelling ValuePart value_words value_part ws)
+longest_if_ok ws (Ok f) e = subst (IsLongest Spelling ValuePart value_words value_part ws) (sym e) (is_longest ws)
+longest_if_ok ws (Err e) h = tt
+
+pub read_if_ok : {E : Type 0} (ws : List Word) (found : Result (Option (ValuePart × ℕ)) E) → IfOk found (λ f. f ≡ counted ws) → IfOk found (IsRead Spelling ValuePart value_words value_part EndsValue ws)
+read_if_ok ws (Ok f) e = subst (IsRead Spelling ValuePart value_words value_part EndsValue ws) (sym e) (is_read ws)
+read_if_ok ws (Err e) h = tt

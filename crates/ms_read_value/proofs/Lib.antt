@@ -4,3 +4,4 @@ mod Steps
 mod Complete
 mod Sound
 mod Fronts
+mod Tokens
