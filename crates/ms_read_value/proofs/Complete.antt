@@ -7,13 +7,11 @@ use Rattle.ms_grammar.specs.declared.part.ValueRow.{ValueRow}
 use Rattle.ms_grammar.specs.Terms.{both}
 use Rattle.ms_grammar.specs.Words.{Word, name, number, quoted, sign}
 use Rattle.ms_grammar.specs.Reading.{EndsValue}
-use Rattle.ms_grammar.specs.Values.{Spelling, Spellings, numeral, negative, string, constant, no_arguments, function, empty_tuple, tuple, tuple_comma, one_value, and_value, value_words, values_words, value_part, values_row, value_named, value_grouped, no_values, with_value}
+use Rattle.ms_grammar.specs.Values.{Spelling, Spellings, numeral, negative, string, constant, no_arguments, function, empty_tuple, tuple, tuple_comma, one_value, and_value, value_words, values_words, value_part, values_row, value_named, no_values, with_value}
 use Rattle.ms_read_value.specs.declared.groups.Group.{Group}
-use Rattle.ms_read_value.specs.declared.lexemes.Lexeme.TheVariants as lexeme
-use Rattle.ms_read_value.specs.declared.reader.Place.{Place}
 use Rattle.ms_read_value.specs.declared.reader.Place.TheVariants.{First, Comma, Minus, Name, Value}
 use Rattle.ms_read_value.specs.Lexemes.{lexeme_of}
-use Rattle.ms_read_value.specs.Machine.{opened, with_part, closed, closed_by_comma, behind, behind_some, leave, begin, step_at}
+use Rattle.ms_read_value.specs.Machine.{opened, with_part, closed, step_at}
 use Rattle.ms_read_value.specs.Front.{read_on}
 use Rattle.ms_read_value.proofs.Numerals.{numeral-least, negative-least}
 use Rattle.ms_read_value.proofs.Steps.{constant_part, found_at, found_at-word, found_at-end, found_after, found_from}
@@ -153,4 +151,3 @@ mutual
       ap (λ x. found_at First (opened called ∷ groups) x) (append_assoc (values_words vs) (sign kind.Comma ∷ value_words v) ws)
       ∙ complete-values vs called groups (sign kind.Comma ∷ (value_words v ++ ws)) tt
       ∙ complete-next (values_row vs) v called groups ws (λ group. complete-value v (group ∷ groups) ws (ends_inside v group groups ws h))
-

@@ -13,7 +13,7 @@ use Rattle.ms_grammar.specs.Values.{Spelling, numeral, negative, string, constan
 use Rattle.ms_read_value.specs.declared.reader.Place.TheVariants.{First}
 use Rattle.ms_read_value.specs.Lexemes.{lexeme_of}
 use Rattle.ms_read_value.specs.Machine.{opened, begin, within}
-use Rattle.ms_read_value.specs.Front.{read_on, front, front_named, arguments_front, counted}
+use Rattle.ms_read_value.specs.Front.{read_on, front, arguments_front, counted}
 use Rattle.ms_read_value.proofs.Steps.{constant_part, found_after, found_from}
 use Rattle.ms_read_value.proofs.Complete.{complete-value, opens_arguments}
 use Rattle.ms_read_value.proofs.Sound.{Finds, opening, front-leads, opening-leads, finds_more, finds_here, sound}

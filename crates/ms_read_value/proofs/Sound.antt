@@ -14,7 +14,7 @@ use Rattle.ms_read_value.specs.declared.reader.Place.TheVariants.{First, Comma, 
 use Rattle.ms_read_value.specs.declared.reader.Progress.{Progress}
 use Rattle.ms_read_value.specs.declared.reader.Progress.TheVariants.{Within, Done, Failed}
 use Rattle.ms_read_value.specs.Lexemes.{lexeme_of}
-use Rattle.ms_read_value.specs.Machine.{opened, with_part, closed, closed_by_comma, behind, behind_some, leave, leave_by_comma, begin, follow, follow_name, step_at}
+use Rattle.ms_read_value.specs.Machine.{opened, with_part, closed, behind, behind_some, leave, leave_by_comma, begin, follow, follow_name, step_at}
 use Rattle.ms_read_value.specs.Front.{read_on}
 use Rattle.ms_read_value.proofs.Numerals.{numeral-least, negative-least}
 use Rattle.ms_read_value.proofs.Steps.{constant_part, found_at-word, found_at-end}
@@ -122,7 +122,7 @@ close-leads : (groups : List Group) (words : List Word) (Inner : List Word → T
     → Leads (behind_some part groups) (words ++ sign kind.RightParen ∷ [])
 close-leads groups words Inner s v part e f =
     let whole : s.outside ++ value_words v ≡ words ++ sign kind.RightParen ∷ [] =
-        ap (λ ws. s.outside ++ ws) f ∙ sym (append_assoc s.outside s.inside (sign kind.RightParen ∷ [])) ∙ ap (λ ws. ws ++ sign kind.RightParen ∷ []) (sym s.words_are) in
+    ap (λ ws. s.outside ++ ws) f ∙ sym (append_assoc s.outside s.inside (sign kind.RightParen ∷ [])) ∙ ap (λ ws. ws ++ sign kind.RightParen ∷ []) (sym s.words_are) in
     subst (Leads (behind_some part groups)) whole (behind_some-leads groups s.outside s.outer v part e)
 
 new-closed : (called : Option (List ℕ)) (row : ValueRow) (groups : List Group) (words : List Word) (s : Splits (Standing groups) (IsNew (record { name = called; row = row })) words)
@@ -140,7 +140,7 @@ comma-closed : (called : Option (List ℕ)) (row : ValueRow) (groups : List Grou
 comma-closed None row groups words s =
     let values = s.inner.values in
     close-leads groups words _ s (tuple_comma values.values) _ (ap (option_and_then (value_named [])) values.row_is)
-      (sym (ap (λ ws. ws ++ sign kind.RightParen ∷ []) (s.inner.words_are ∙ ap (λ ws. ws ++ sign kind.Comma ∷ []) values.words_are) ∙ append_assoc (opening None ++ values_words values.values) (sign kind.Comma ∷ []) (sign kind.RightParen ∷ [])))
+    (sym (ap (λ ws. ws ++ sign kind.RightParen ∷ []) (s.inner.words_are ∙ ap (λ ws. ws ++ sign kind.Comma ∷ []) values.words_are) ∙ append_assoc (opening None ++ values_words values.values) (sign kind.Comma ∷ []) (sign kind.RightParen ∷ [])))
 comma-closed (Some f) row groups words s = tt
 
 -- a word behind a value
@@ -190,9 +190,9 @@ minus-leads : (groups : List Group) (words : List Word) → StandsAt Minus group
 unfolding StandsAt
 minus-leads groups words s (number n) =
     let whole : s.outside ++ value_words (negative n) ≡ words ++ number n ∷ [] =
-        sym (append_assoc s.outside (sign kind.Minus ∷ []) (number n ∷ []))
-        ∙ ap (λ inside. (s.outside ++ inside) ++ number n ∷ []) (sym s.inner)
-        ∙ ap (λ ws. ws ++ number n ∷ []) (sym s.words_are) in
+    sym (append_assoc s.outside (sign kind.Minus ∷ []) (number n ∷ []))
+    ∙ ap (λ inside. (s.outside ++ inside) ++ number n ∷ []) (sym s.inner)
+    ∙ ap (λ ws. ws ++ number n ∷ []) (sym s.words_are) in
     subst (Leads (step_at Minus groups (lexeme_of (number n)))) whole (behind_some-leads groups s.outside s.outer (negative n) _ (sym (negative-least n)))
 minus-leads groups words s (name f) = tt
 minus-leads groups words s (quoted t) = tt

@@ -1,9 +1,8 @@
 -- One token after another.
-use Rattle.std.proofs.Common.{◌≡◌, ℕ, zero, suc, ◌+◌, ◌<◌, ◌≤◌, List, [], ◌∷◌, length, get_or, All, Some, None, refl, ap, sym, ◌∙◌, subst, arith}
-use Rattle.std.specs.Option.{IfSome}
+use Rattle.std.proofs.Common.{◌≡◌, ℕ, suc, ◌≤◌, List, [], ◌∷◌, length, None, ap, sym, ◌∙◌, arith}
+use Rattle.std.proofs.lemmas.List.Elements.{All-rest}
 use Rattle.ms_text.specs.declared.token.Token.{Token}
 use Rattle.ms_text.specs.Tokens.{LieWithin}
-use Rattle.ms_grammar.specs.declared.part.ValuePart.{ValuePart}
 use Rattle.ms_grammar.specs.Words.{word_of, words_of}
 use Rattle.ms_read_value.specs.declared.lexemes.Lexeme.{Lexeme}
 use Rattle.ms_read_value.specs.declared.reader.Reader.{Reader}
@@ -29,16 +28,13 @@ module _ (text : List ℕ) (start : Progress) (tokens : List Token) (progress : 
   pub HasRead-end : length rest ≡ 0 → None ≡ left (read_on start (words_of text tokens))
   HasRead-end e = sym (ap (λ p. left (read_on p (words_of text rest))) is ∙ nothing_in rest e) ∙ read.same
 
-  inside_after : (token : Token) (after : List Token) → rest ≡ token ∷ after → LieWithin (length text) after
-  inside_after token after e k d h = subst (LieWithin (length text)) e read.inside (suc k) d (omega (arith, h))
-
   -- one more token
   pub HasRead-token : (token : Token) (after : List Token) → rest ≡ token ∷ after → (lexeme : Lexeme) → lexeme ≡ lexeme_of (word_of text token) → (next : Progress) → next ≡ step_at reader.place reader.groups lexeme
       → HasRead text start tokens next after
   HasRead-token token after e lexeme f next g =
       let whole : length rest ≡ suc (length after) = ap length e in
       record {
-        inside = inside_after token after e;
+        inside = All-rest (λ t. (t.start ≤ t.end) × (t.end ≤ length text)) token after rest e read.inside;
         shorter = omega (arith, whole, read.shorter);
         same =
             ap (λ p. left (read_on p (words_of text after))) (g ∙ ap (step_at reader.place reader.groups) f)

@@ -11,7 +11,7 @@ use Rattle.ms_read_value.specs.declared.reader.Place.TheVariants.{First}
 use Rattle.ms_read_value.specs.declared.reader.Progress.{Progress}
 use Rattle.ms_read_value.specs.declared.reader.Progress.TheVariants.{Within, Done, Failed}
 use Rattle.ms_read_value.specs.Lexemes.{lexeme_of}
-use Rattle.ms_read_value.specs.Machine.{opened, begin, step_at, within}
+use Rattle.ms_read_value.specs.Machine.{opened, begin, step_at}
 
 -- The value that ends where the reader first has a whole one, with the words behind it.
 unfoldable pub read_from : Reader → List Word → Option (ValuePart × List Word)

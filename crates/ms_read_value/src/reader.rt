@@ -94,11 +94,7 @@ fn behind_some(groups: Groups, part: Option<ValuePart>) -> Result<Progress, OutO
 }
 
 /// A value begins.
-pub(crate) fn begin(
-    alloc: Global,
-    groups: Groups,
-    lexeme: Lexeme,
-) -> Result<Progress, OutOfMemory>
+pub(crate) fn begin(alloc: Global, groups: Groups, lexeme: Lexeme) -> Result<Progress, OutOfMemory>
     ensures { IfOk result (λ progress. progress ≡ begin groups lexeme) }
 {
     match lexeme {
@@ -137,11 +133,7 @@ fn leave_by_comma(alloc: Global, mut groups: Groups) -> Result<Progress, OutOfMe
     }
 }
 
-fn after_opening(
-    alloc: Global,
-    groups: Groups,
-    lexeme: Lexeme,
-) -> Result<Progress, OutOfMemory>
+fn after_opening(alloc: Global, groups: Groups, lexeme: Lexeme) -> Result<Progress, OutOfMemory>
     ensures { IfOk result (λ progress. progress ≡ step_at Place.First groups lexeme) }
 {
     match lexeme {
