@@ -8,6 +8,14 @@ ghost use Rattle.ms_grammar.specs.Words.{words_of};
 ghost use Rattle.ms_grammar.specs.Values.{Spelling, value_words, value_part};
 ghost use Rattle.ms_grammar.specs.Reading.{EndsValue, IsLongest, IsRead};
 
+mod front;
+mod groups;
+mod lexemes;
+mod numbers;
+mod reader;
+mod strings;
+
+use front::count_front;
 pub use ms_base::memory::OutOfMemory;
 use ms_grammar::part::ValuePart;
 use ms_text::token::Token;
@@ -24,5 +32,8 @@ pub fn read_front(
     ensures longest { IfOk result (IsLongest Spelling ValuePart value_words value_part (words_of text.now tokens.now)) }
     ensures read { IfOk result (IsRead Spelling ValuePart value_words value_part EndsValue (words_of text.now tokens.now)) }
 {
-    Err(OutOfMemory)
+    count_front(alloc, text, tokens)
 }
+
+#[cfg(test)]
+mod tests;

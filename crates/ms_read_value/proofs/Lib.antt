@@ -1,0 +1,7 @@
+mod Quoted
+mod Numerals
+mod Steps
+mod Complete
+mod Sound
+mod Fronts
+mod Tokens

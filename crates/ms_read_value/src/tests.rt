@@ -1,0 +1,262 @@
+ghost use Rattle.std.specs.Prelude.{IsTrue};
+ghost use Rattle.ms_text.specs.Tokens.{LieWithin};
+
+use crate::read_front;
+use ms_grammar::value::Value;
+use ms_lex::{Token, lex};
+use std::alloc::Global;
+use std::test::Fail;
+
+/// What a value is at its top.
+#[derive(Clone, Copy, Debug, PartialEq, Eq)]
+enum Shape {
+    Number(i64),
+    Text(&'static [u8]),
+    /// A name, and how many arguments.
+    Function(&'static [u8], usize),
+}
+
+/// A text, and the value at its front with its height and its number of tokens.
+#[derive(Clone, Copy)]
+struct Row {
+    message: &'static str,
+    text: &'static [u8],
+    front: Option<(Shape, u8, usize)>,
+}
+
+const ROWS: &[Row] = &[
+    Row {
+        message: "nothing",
+        text: b"",
+        front: None,
+    },
+    Row {
+        message: "the least number",
+        text: b"-9223372036854775808",
+        front: Some((Shape::Number(i64::MIN), 1, 2)),
+    },
+    Row {
+        message: "the greatest number",
+        text: b"9223372036854775807",
+        front: Some((Shape::Number(i64::MAX), 1, 1)),
+    },
+    Row {
+        message: "a number above the greatest",
+        text: b"9223372036854775808",
+        front: None,
+    },
+    Row {
+        message: "a number above the greatest in a tuple",
+        text: b"(1,9223372036854775808)",
+        front: None,
+    },
+    Row {
+        message: "a blank behind a minus",
+        text: b"- 5",
+        front: Some((Shape::Number(-5), 1, 2)),
+    },
+    Row {
+        message: "minus zero",
+        text: b"-0",
+        front: Some((Shape::Number(0), 1, 2)),
+    },
+    Row {
+        message: "two minuses",
+        text: b"--1",
+        front: None,
+    },
+    Row {
+        message: "a minus before a name",
+        text: b"-a",
+        front: None,
+    },
+    Row {
+        message: "a minus alone",
+        text: b"-",
+        front: None,
+    },
+    Row {
+        message: "a value ends before another sign",
+        text: b"1+2",
+        front: Some((Shape::Number(1), 1, 1)),
+    },
+    Row {
+        message: "a number has no arguments",
+        text: b"1(2)",
+        front: Some((Shape::Number(1), 1, 1)),
+    },
+    Row {
+        message: "a string with escapes",
+        text: b"\"a\\n\\\"\\\\\"",
+        front: Some((Shape::Text(b"a\n\"\\"), 1, 1)),
+    },
+    Row {
+        message: "an empty string",
+        text: b"\"\" \"b\"",
+        front: Some((Shape::Text(b""), 1, 1)),
+    },
+    Row {
+        message: "a name",
+        text: b"f",
+        front: Some((Shape::Function(b"f", 0), 1, 1)),
+    },
+    Row {
+        message: "not is no name",
+        text: b"not",
+        front: None,
+    },
+    Row {
+        message: "a name in empty brackets",
+        text: b"f()",
+        front: Some((Shape::Function(b"f", 0), 1, 3)),
+    },
+    Row {
+        message: "an open bracket",
+        text: b"f(",
+        front: Some((Shape::Function(b"f", 0), 1, 1)),
+    },
+    Row {
+        message: "an open bracket behind a comma",
+        text: b"f(1,",
+        front: Some((Shape::Function(b"f", 0), 1, 1)),
+    },
+    Row {
+        message: "a last comma of arguments",
+        text: b"f(1,)",
+        front: Some((Shape::Function(b"f", 0), 1, 1)),
+    },
+    Row {
+        message: "arguments without a comma",
+        text: b"f(1 2)",
+        front: Some((Shape::Function(b"f", 0), 1, 1)),
+    },
+    Row {
+        message: "arguments of each kind",
+        text: b"f(a,\"b\",-3,g(),h(1,(2)),()).",
+        front: Some((Shape::Function(b"f", 6), 3, 25)),
+    },
+    Row {
+        message: "a second pair of brackets",
+        text: b"f(1)(2)",
+        front: Some((Shape::Function(b"f", 1), 2, 4)),
+    },
+    Row {
+        message: "the empty tuple",
+        text: b"()",
+        front: Some((Shape::Function(b"", 0), 1, 2)),
+    },
+    Row {
+        message: "one value in brackets",
+        text: b"((1))",
+        front: Some((Shape::Number(1), 1, 5)),
+    },
+    Row {
+        message: "a tuple of one",
+        text: b"(1,)",
+        front: Some((Shape::Function(b"", 1), 2, 4)),
+    },
+    Row {
+        message: "a tuple of two",
+        text: b"(1,a)",
+        front: Some((Shape::Function(b"", 2), 2, 5)),
+    },
+    Row {
+        message: "a tuple of two with a last comma",
+        text: b"(1,(),)",
+        front: Some((Shape::Function(b"", 2), 2, 7)),
+    },
+    Row {
+        message: "a comma alone",
+        text: b"(,)",
+        front: None,
+    },
+    Row {
+        message: "two commas",
+        text: b"(1,,)",
+        front: None,
+    },
+    Row {
+        message: "an open parenthesis",
+        text: b"(1",
+        front: None,
+    },
+    Row {
+        message: "a closing bracket",
+        text: b")",
+        front: None,
+    },
+];
+
+fn lie_within(tokens: &[Token], length: usize) -> bool
+    ensures { IsTrue result → LieWithin length tokens.now }
+{
+    tokens
+        .iter()
+        .all(|token| token.start <= token.end && token.end <= length)
+}
+
+fn is_shape(value: &Value, shape: Shape) -> bool {
+    match (value, shape) {
+        (Value::Number(number), Shape::Number(want)) => *number == want,
+        (Value::Text(bytes), Shape::Text(want)) => bytes.as_slice() == want,
+        (Value::Function(name, values), Shape::Function(want, count)) => {
+            name.as_slice() == want && values.len() == count
+        }
+        _ => false,
+    }
+}
+
+#[test]
+fn reads_fronts(rt: HostRuntime) -> Result<(), Fail> {
+    for row in ROWS {
+        let tokens = lex(rt.alloc(), row.text).ok().ok_or(row.message)?;
+        let front = read_front(rt.alloc(), row.text, tokens.as_slice())?;
+        match (front, row.front) {
+            (Some((part, count)), Some((shape, height, want))) => {
+                assert!(rt; is_shape(&part.value, shape), "value of {}", row.message);
+                assert_eq!(rt; (part.height, count), (height, want), "{}", row.message);
+            }
+            (front, want) => {
+                assert!(rt; front.is_none() && want.is_none(), "{}", row.message);
+            }
+        }
+    }
+    Ok(())
+}
+
+/// `f(f(..1..))` with so many names.
+fn nested(alloc: Global, names: usize) -> Result<Vec<u8>, Fail> {
+    let mut text = Vec::new(alloc);
+    for _ in 0..names {
+        text.push(b'f')?;
+        text.push(b'(')?;
+    }
+    text.push(b'1')?;
+    for _ in 0..names {
+        text.push(b')')?;
+    }
+    Ok(text)
+}
+
+#[test]
+fn limits_heights(rt: HostRuntime) -> Result<(), Fail> {
+    for (names, height, count) in [(198, 199, 595), (199, 200, 598), (200, 1, 1), (201, 1, 1)] {
+        let text = nested(rt.alloc(), names)?;
+        let tokens = lex(rt.alloc(), text.as_slice()).ok().ok_or("tokens")?;
+        let front = read_front(rt.alloc(), text.as_slice(), tokens.as_slice())?;
+        let (part, read) = front.ok_or("a value")?;
+        assert_eq!(rt; (part.height, read), (height, count), "{names} names");
+    }
+    Ok(())
+}
+
+#[test]
+fn refuses_a_million_of_open_brackets(rt: HostRuntime) -> Result<(), Fail> {
+    for (word, count) in [("f(", Some(1)), ("(", None), ("f((", Some(1))] {
+        let text = word.repeat(rt.alloc(), 40_000)?;
+        let tokens = lex(rt.alloc(), text.as_bytes()).ok().ok_or("tokens")?;
+        let front = read_front(rt.alloc(), text.as_bytes(), tokens.as_slice())?;
+        assert_eq!(rt; front.map(|(_, read)| read), count, "{word}");
+    }
+    Ok(())
+}
