@@ -1,9 +1,12 @@
 // How choices and copies are counted.
-ghost use Rattle.std.specs.Prelude.{◌≡◌, ◌+◌, ◌*◌, nat_le, if◌then◌else◌};
+ghost use Rattle.std.specs.Prelude.{◌≡◌, ◌+◌, ◌*◌, nat_le, if◌then◌else◌, [], ◌∷◌, ◌++◌, OnOk};
 ghost use Rattle.ms_grammar.specs.Terms.{counted};
 ghost use Rattle.ms_grammar.specs.Statements.{alone, beside, as_element};
 
+use ms_base::memory::OutOfMemory;
+use ms_base::seq::Seq;
 use ms_grammar::part::Counted;
+use ms_grammar::term::{TextTerm, TextTerms};
 
 /// How many choices pools have is counted up to this.
 const MOST_COUNTED: u32 = 10_001;
@@ -58,4 +61,37 @@ fn copies(choices: u32) -> u32
     ensures { result ≡ (if nat_le choices 1 then 0 else choices) }
 {
     if choices <= 1 { 0 } else { choices }
+}
+
+/// Adds an element at the end of a list.
+pub(crate) fn push<T: Drop>(list: &mut Counted<Seq<T>>, item: Counted<T>) -> Result<(), OutOfMemory>
+    ensures { OnOk result (list.new ≡ beside (λ xs x. xs ++ x ∷ []) list.old item) }
+{
+    let Counted {
+        value,
+        choices,
+        elements,
+    } = item;
+    list.value.push(value)?;
+    list.choices = product(list.choices, choices);
+    list.elements = total(list.elements, elements);
+    Ok(())
+}
+
+/// Adds a term at the end of a tuple.
+pub(crate) fn push_term(
+    tuple: &mut Counted<TextTerms>,
+    term: Counted<TextTerm>,
+) -> Result<(), OutOfMemory>
+    ensures { OnOk result (tuple.new ≡ beside (λ xs x. xs ++ x ∷ []) tuple.old term) }
+{
+    let Counted {
+        value,
+        choices,
+        elements,
+    } = term;
+    tuple.value.push(value)?;
+    tuple.choices = product(tuple.choices, choices);
+    tuple.elements = total(tuple.elements, elements);
+    Ok(())
 }

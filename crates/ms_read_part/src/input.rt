@@ -60,6 +60,16 @@ impl<'a> Input<'a> {
         }
     }
 
+    /// The kind of the second token.
+    pub(crate) fn second(&self) -> Option<TokenKind>
+        ensures { result ≡ front_kind (drop 1 self.now) }
+    {
+        match self.tokens {
+            [_, second, ..] => Some(second.kind),
+            _ => None,
+        }
+    }
+
     /// What is left after the first token, or nothing.
     pub(crate) fn after_front(self) -> Self
         ensures { result ≡ drop 1 self.entry }

@@ -12,7 +12,12 @@ ghost use Rattle.ms_grammar.specs.Statements.{Atom, atom_words, atom_spelled, Bo
 ghost use Rattle.ms_grammar.specs.Reading.{EndsPart, IsRead};
 
 mod counted;
+mod element;
+mod group;
 mod input;
+mod kinds;
+mod literal;
+mod part;
 mod term;
 
 pub use ms_base::memory::OutOfMemory;
