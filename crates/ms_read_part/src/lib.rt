@@ -11,6 +11,15 @@ ghost use Rattle.ms_grammar.specs.Words.{words_of};
 ghost use Rattle.ms_grammar.specs.Statements.{Atom, atom_words, atom_spelled, BodyPart, body_part_words, body_part_spelled, HeadPart, head_words, head_spelled};
 ghost use Rattle.ms_grammar.specs.Reading.{EndsPart, IsRead};
 
+mod counted;
+mod element;
+mod group;
+mod input;
+mod kinds;
+mod literal;
+mod part;
+mod term;
+
 pub use ms_base::memory::OutOfMemory;
 use ms_grammar::part::Counted;
 use ms_grammar::statement::{BodyLit, Head};

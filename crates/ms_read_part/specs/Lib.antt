@@ -1,0 +1,4 @@
+pub mod Kinds
+pub mod Cuts
+pub mod Leads
+pub mod Pieces
