@@ -1,4 +1,1 @@
 mod PieceLemmas
-mod ReadingLemmas
-mod StatementLemmas
-mod PiecewiseLemmas

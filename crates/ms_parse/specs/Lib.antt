@@ -1,3 +1,5 @@
-pub mod Gives
 pub mod Pieces
-pub mod Reading
+pub mod Words
+pub mod Content
+pub mod Gives
+pub mod ValuesAt
