@@ -1,4 +1,5 @@
 pub mod Pieces
+pub mod Signs
 pub mod Words
 pub mod Content
 pub mod Gives

@@ -3,8 +3,9 @@ ghost use Rattle.std.specs.Prelude.{◌≡◌, length, IfOk};
 ghost use Rattle.ms_text.specs.Tokens.{LieWithin};
 ghost use Rattle.ms_grammar.specs.Words.{words_of};
 ghost use Rattle.ms_parse.specs.Words.{show_in, is_incmode};
-ghost use Rattle.ms_parse.specs.Content.{IsAtom, IsConstLine, IsValue};
+ghost use Rattle.ms_parse.specs.Content.{IsAtom, IsConstLine, IsValue, whole};
 
+use crate::sign::after_sign;
 use crate::word::{is_name, name_of, numeral_of};
 use ms_base::memory::OutOfMemory;
 use ms_grammar::part::{Counted, ValuePart};
@@ -37,16 +38,16 @@ pub(crate) fn read_const(
     requires { LieWithin (length text.now) after.now }
     ensures { IfOk result (IsConstLine (words_of text.now after.now)) }
 {
-    let [first, equal, rest @ ..] = after else {
+    let Some((first, rest)) = after.split_first() else {
         return Ok(None);
     };
-    if !matches!(equal.kind, TokenKind::Equal) {
+    let Some(tokens) = after_sign(rest, TokenKind::Equal) else {
         return Ok(None);
-    }
+    };
     let Some(name) = name_of(alloc, text, *first)? else {
         return Ok(None);
     };
-    let Some(part) = read_whole_value(alloc, text, rest)? else {
+    let Some(part) = read_whole_value(alloc, text, tokens)? else {
         return Ok(None);
     };
     Ok(Some(Form::Const {

@@ -1,16 +1,17 @@
 // The statements of a text, and the values in it.
 #![tactic(auto)]
 
-ghost use Rattle.std.specs.Prelude.{length, ◌≤◌, IfOk};
+ghost use Rattle.std.specs.Prelude.{◌≡◌, ◌≤◌, length, IfOk};
 ghost use Rattle.ms_text.specs.Tokens.{LieWithin};
 ghost use Rattle.ms_parse.specs.Gives.{Gives};
-ghost use Rattle.ms_parse.specs.ValuesAt.{IsLongestFrom, ValuesLieBetween};
+ghost use Rattle.ms_parse.specs.ValuesAt.{IsLongestFrom};
 
 mod counts;
 mod directive;
 mod piece;
 mod program;
 mod rule;
+mod sign;
 mod statement;
 mod word;
 

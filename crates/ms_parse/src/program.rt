@@ -5,6 +5,7 @@ ghost use Rattle.ms_grammar.specs.Words.{words_of};
 ghost use Rattle.ms_parse.specs.Words.{names_in, parameters_in};
 ghost use Rattle.ms_parse.specs.Content.{IsProgramLine};
 
+use crate::sign::{after_sign, is_alone};
 use crate::word::name_of;
 use ms_base::memory::OutOfMemory;
 use ms_base::seq::{Bytes, Seq};
@@ -22,7 +23,7 @@ pub(crate) fn read_program(
     requires { LieWithin (length text.now) after.now }
     ensures { IfOk result (IsProgramLine (words_of text.now after.now)) }
 {
-    let [first, rest @ ..] = after else {
+    let Some((first, rest)) = after.split_first() else {
         return Ok(None);
     };
     let Some(name) = name_of(alloc, text, *first)? else {
@@ -46,14 +47,16 @@ fn read_parameters(
     requires { LieWithin (length text.now) tokens.now }
     ensures { IfOk result (λ found. found ≡ parameters_in (words_of text.now tokens.now)) }
 {
-    match tokens {
-        [] => Ok(Some(Seq::new(alloc))),
-        [left, within @ ..] if matches!(left.kind, TokenKind::LeftParen) => match within {
-            [right] if matches!(right.kind, TokenKind::RightParen) => Ok(Some(Seq::new(alloc))),
-            _ => read_names(alloc, text, within),
-        },
-        _ => Ok(None),
+    if tokens.is_empty() {
+        return Ok(Some(Seq::new(alloc)));
     }
+    let Some(within) = after_sign(tokens, TokenKind::LeftParen) else {
+        return Ok(None);
+    };
+    if is_alone(within, TokenKind::RightParen) {
+        return Ok(Some(Seq::new(alloc)));
+    }
+    read_names(alloc, text, within)
 }
 
 // Names with commas between them, up to a parenthesis at the very end.
@@ -63,20 +66,20 @@ fn read_names(alloc: Global, text: &[u8], tokens: &[Token]) -> Result<Option<Nam
 {
     let mut names = Seq::new(alloc);
     let mut rest = tokens;
-    loop {
-        let [first, after @ ..] = rest else {
-            return Ok(None);
-        };
+    while let Some((first, after)) = rest.split_first() {
         let Some(name) = name_of(alloc, text, *first)? else {
             return Ok(None);
         };
         names.push(name)?;
-        rest = match after {
-            [right] if matches!(right.kind, TokenKind::RightParen) => return Ok(Some(names)),
-            [comma, more @ ..] if matches!(comma.kind, TokenKind::Comma) => more,
-            _ => return Ok(None),
+        if is_alone(after, TokenKind::RightParen) {
+            return Ok(Some(names));
+        }
+        let Some(more) = after_sign(after, TokenKind::Comma) else {
+            return Ok(None);
         };
+        rest = more;
     }
+    Ok(None)
 }
 
 // Whether no two of the names are alike.

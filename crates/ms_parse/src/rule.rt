@@ -1,10 +1,14 @@
 // Rules.
-ghost use Rattle.std.specs.Prelude.{◌≡◌, length, IfOk};
+ghost use Rattle.std.specs.Prelude.{◌≡◌, [], length, IfOk, MatchOption};
 ghost use Rattle.ms_text.specs.Tokens.{LieWithin};
 ghost use Rattle.ms_grammar.specs.Words.{words_of};
-ghost use Rattle.ms_parse.specs.Content.{IsRule, IsTail, IsBody};
+ghost use Rattle.ms_grammar.specs.declared.statement.Form.TheVariants.{Rule};
+ghost use Rattle.ms_grammar.specs.Statements.{alone, beside};
+ghost use Rattle.ms_parse.specs.Signs.{Separates, SeparatesNot};
+ghost use Rattle.ms_parse.specs.Content.{IsRule, IsTail, IsBody, with_part};
 
 use crate::counts::{more_choices, more_elements};
+use crate::sign::after_sign;
 use ms_base::memory::OutOfMemory;
 use ms_base::seq::Seq;
 use ms_grammar::part::Counted;
@@ -56,14 +60,16 @@ fn read_tail(
     requires { LieWithin (length text.now) tokens.now }
     ensures { IfOk result (IsTail (words_of text.now tokens.now)) }
 {
-    match tokens {
-        [] => Ok(Some(no_parts(alloc))),
-        [sign, after @ ..] if matches!(sign.kind, TokenKind::If) => match after {
-            [] => Ok(Some(no_parts(alloc))),
-            _ => read_body(alloc, text, after),
-        },
-        _ => Ok(None),
+    if tokens.is_empty() {
+        return Ok(Some(no_parts(alloc)));
     }
+    let Some(after) = after_sign(tokens, TokenKind::If) else {
+        return Ok(None);
+    };
+    if after.is_empty() {
+        return Ok(Some(no_parts(alloc)));
+    }
+    read_body(alloc, text, after)
 }
 
 // The parts of a body, with `,` or `;` between them.
@@ -82,13 +88,24 @@ fn read_body(
             return Ok(None);
         };
         body = with_part(body, part)?;
-        rest = match &rest[count..] {
-            [] => return Ok(Some(body)),
-            [sign, more @ ..] if matches!(sign.kind, TokenKind::Comma | TokenKind::Semicolon) => {
-                more
-            }
-            _ => return Ok(None),
+        let after = &rest[count..];
+        if after.is_empty() {
+            return Ok(Some(body));
+        }
+        let Some(more) = after_separator(after) else {
+            return Ok(None);
         };
+        rest = more;
+    }
+}
+
+// The tokens after a `,` or a `;`, if one comes first.
+fn after_separator(tokens: &[Token]) -> Option<&[Token]>
+    ensures { MatchOption result (SeparatesNot tokens.now) (λ rest. Separates tokens.now rest.now) }
+{
+    match after_sign(tokens, TokenKind::Comma) {
+        None => after_sign(tokens, TokenKind::Semicolon),
+        found => found,
     }
 }
 

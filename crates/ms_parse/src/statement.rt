@@ -2,8 +2,9 @@
 ghost use Rattle.std.specs.Prelude.{◌≡◌, length, IfOk, IfSome};
 ghost use Rattle.ms_text.specs.Tokens.{LieWithin};
 ghost use Rattle.ms_grammar.specs.declared.statement.Statement.{Statement};
+ghost use Rattle.ms_grammar.specs.declared.statement.Form.TheVariants.{External};
 ghost use Rattle.ms_grammar.specs.Words.{words_of};
-ghost use Rattle.ms_grammar.specs.Statements.{IsStatement};
+ghost use Rattle.ms_grammar.specs.Statements.{IsStatement, alone, with_value};
 ghost use Rattle.ms_parse.specs.Content.{IsContent, statement_from};
 
 use crate::counts::has_few_copies;
@@ -29,7 +30,7 @@ pub(crate) fn read_statement(
     ensures only { IfOk result
         (λ found. (s : Statement) → IsStatement text.now piece.now s → found ≡ Some s) }
 {
-    let [content @ .., last] = piece else {
+    let Some((last, content)) = piece.split_last() else {
         return Ok(None);
     };
     if !matches!(last.kind, TokenKind::Dot) {
@@ -62,7 +63,7 @@ fn read_content(
     requires { LieWithin (length text.now) content.now }
     ensures { IfOk result (IsContent (words_of text.now content.now)) }
 {
-    let [first, after @ ..] = content else {
+    let Some((first, after)) = content.split_first() else {
         return Ok(None);
     };
     match first.kind {

@@ -3,7 +3,7 @@ ghost use Rattle.std.specs.Prelude.{◌≡◌, ◌≤◌, length, IfOk, MatchOpt
 ghost use Rattle.ms_text.specs.Tokens.{number_of};
 ghost use Rattle.ms_grammar.specs.Words.{word_of};
 ghost use Rattle.ms_grammar.specs.Terms.{greatest_numeral};
-ghost use Rattle.ms_parse.specs.Words.{name_in, numeral_in};
+ghost use Rattle.ms_parse.specs.Words.{is_name, name_in, numeral_in};
 
 use ms_base::memory::OutOfMemory;
 use ms_base::seq::{Bytes, Seq};
