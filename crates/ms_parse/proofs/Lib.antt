@@ -1,4 +1,2 @@
 mod PieceLemmas
-mod ReadingLemmas
-mod StatementLemmas
-mod PiecewiseLemmas
+mod Exact

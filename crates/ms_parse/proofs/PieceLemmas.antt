@@ -5,7 +5,7 @@ use Rattle.std.proofs.lemmas.Bool.Decides.{nat_tests}
 use Rattle.ms_text.specs.declared.token.Token.{Token}
 use Rattle.ms_text.specs.declared.token.TokenKind.{TokenKind}
 use Rattle.ms_text.specs.declared.token.TokenKind.TheVariants.{Dot}
-use Rattle.ms_text.specs.Grammar.{pieces_of, before_pieces, in_first}
+use Rattle.ms_grammar.specs.Statements.{pieces_of, before_pieces, in_first}
 use Rattle.ms_parse.specs.Pieces.{is_dot, piece_len, IsFirstPiece}
 
 -- the length by how many tokens stand before the first dot, and how many there are

@@ -1,3 +1,6 @@
-pub mod Gives
 pub mod Pieces
-pub mod Reading
+pub mod Signs
+pub mod Words
+pub mod Content
+pub mod Gives
+pub mod ValuesAt

@@ -4,7 +4,7 @@ use Rattle.std.specs.Option.{option_map_or}
 use Rattle.ms_text.specs.declared.token.Token.{Token}
 use Rattle.ms_text.specs.declared.token.TokenKind.{TokenKind}
 use Rattle.ms_text.specs.declared.token.TokenKind.TheVariants.{Dot}
-use Rattle.ms_text.specs.Grammar.{pieces_of}
+use Rattle.ms_grammar.specs.Statements.{pieces_of}
 
 abbrev pub is_dot : TokenKind → Bool
 is_dot Dot = true

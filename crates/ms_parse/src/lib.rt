@@ -1,21 +1,28 @@
-// The statements of a text.
+// The statements of a text, and the values in it.
 #![tactic(auto)]
 
-ghost use Rattle.std.specs.Prelude.{length, ◌≡◌, [], MatchOption, IfOk, IfSome, IfNone, position};
+ghost use Rattle.std.specs.Prelude.{◌≡◌, ◌≤◌, length, IfOk};
 ghost use Rattle.ms_text.specs.Tokens.{LieWithin};
-ghost use Rattle.ms_text.specs.Grammar.{IsStatement, first_line};
-ghost use Rattle.ms_text.specs.declared.small_rule.SmallRule.{SmallRule};
 ghost use Rattle.ms_parse.specs.Gives.{Gives};
-ghost use Rattle.ms_parse.specs.Pieces.{is_dot, piece_len, IsFirstPiece};
+ghost use Rattle.ms_parse.specs.ValuesAt.{IsLongestFrom};
 
-mod draft;
+mod counts;
+mod directive;
+mod piece;
+mod program;
+mod rule;
+mod sign;
+mod statement;
+mod word;
 
-use crate::draft::Draft;
-use ms_base::memory::OutOfMemory;
+use crate::piece::{line_of, split_piece};
+use crate::statement::read_statement;
+pub use ms_base::memory::OutOfMemory;
 use ms_base::seq::Seq;
+pub use ms_grammar::statement::{Form, Statement, Statements};
+pub use ms_grammar::value::Value;
 use ms_lex::Tokens;
-pub use ms_text::small_rule::{Names, SmallRule, SmallRules};
-use ms_text::token::{Token, TokenKind};
+use ms_read_value::read_front;
 use std::alloc::{AllocFailed, Global};
 
 /// Why tokens are no statements.
@@ -48,70 +55,47 @@ impl<T: Drop> From<AllocFailed<T>> for ParseFault {
 
 /// The statements of a text with these tokens, exactly by the grammar, or the line of the first piece that
 /// is none.
-pub fn parse(alloc: Global, text: &[u8], tokens: &Tokens) -> Result<SmallRules, ParseFault>
+pub fn parse(alloc: Global, text: &[u8], tokens: &Tokens) -> Result<Statements, ParseFault>
     requires { LieWithin (length text.now) tokens.now }
     ensures { Gives result text.now tokens.now }
 {
-    let mut rules = Seq::new(alloc);
+    let mut statements = Seq::new(alloc);
     let mut rest = tokens.as_slice();
     while let Some((piece, after)) = split_piece(rest) {
-        let Some(rule) = read_rule(alloc, text, piece)? else {
+        let Some(statement) = read_statement(alloc, text, piece)? else {
             return Err(ParseFault::BadStatement {
                 line: line_of(piece),
             });
         };
-        rules.push(rule)?;
+        statements.push(statement)?;
         rest = after;
     }
-    Ok(rules)
+    Ok(statements)
 }
 
-// The first piece, which ends after the first dot, and the tokens after it.
-fn split_piece(tokens: &[Token]) -> Option<(&[Token], &[Token])>
-    ensures { MatchOption result (tokens.now ≡ [])
-        (λ parts. IsFirstPiece tokens.now parts.0.now parts.1.now) }
-{
-    if tokens.is_empty() {
-        return None;
-    }
-    Some(tokens.split_at(piece_len(tokens)))
+/// A value among the tokens of a text, and the place of the token after it.
+#[derive(Debug, Drop)]
+pub struct ValueAt {
+    pub value: Value,
+    pub next: usize,
 }
 
-// How many tokens the first piece has.
-fn piece_len(tokens: &[Token]) -> usize
-    ensures { result ≡ piece_len tokens.now }
+/// The longest value that begins at a token of a text. None exactly where none begins there.
+pub fn read_value(
+    alloc: Global,
+    text: &[u8],
+    tokens: &Tokens,
+    from: usize,
+) -> Result<Option<ValueAt>, OutOfMemory>
+    requires lie_within { LieWithin (length text.now) tokens.now }
+    requires begins { from ≤ length tokens.now }
+    ensures longest { IfOk result (IsLongestFrom text.now tokens.now from) }
 {
-    dot_place(tokens).map_or(tokens.len(), |dot| dot + 1)
-}
-
-// The place of the first dot.
-fn dot_place(tokens: &[Token]) -> Option<usize>
-    ensures { result ≡ position (λ token. is_dot token.kind) tokens.now }
-{
-    tokens
-        .iter()
-        .position(|token| matches!(token.kind, TokenKind::Dot))
-}
-
-// The line of the first token.
-fn line_of(piece: &[Token]) -> u64
-    ensures { result ≡ first_line piece.now }
-{
-    piece.first().map_or(0, |token| token.line)
-}
-
-// The rule that the piece spells, if it spells one.
-fn read_rule(alloc: Global, text: &[u8], piece: &[Token]) -> Result<Option<SmallRule>, OutOfMemory>
-    requires { LieWithin (length text.now) piece.now }
-    ensures spelled { IfOk result (λ found. IfSome found (IsStatement text.now piece.now)) }
-    ensures none { IfOk result
-        (λ found. IfNone found ((rule : SmallRule) → ¬ IsStatement text.now piece.now rule)) }
-{
-    let mut draft = Draft::new(alloc);
-    for token in piece {
-        draft.read(alloc, text, *token)?;
-    }
-    Ok(draft.into_rule(line_of(piece)))
+    let found = read_front(alloc, text, &tokens.as_slice()[from..])?;
+    Ok(found.map(|(part, count)| ValueAt {
+        value: part.value,
+        next: from + count,
+    }))
 }
 
 #[cfg(test)]

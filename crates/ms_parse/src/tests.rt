@@ -2,61 +2,18 @@ ghost use Rattle.std.specs.Prelude.{IsTrue};
 ghost use Rattle.ms_text.specs.Tokens.{LieWithin};
 
 use super::*;
+use ms_lex::lex;
 use std::process::Abort;
 use std::test::Fail;
 
-fn kind_of(word: &[u8]) -> TokenKind {
-    match word {
-        b"not" => TokenKind::Not,
-        b":-" => TokenKind::If,
-        b"," => TokenKind::Comma,
-        b"." => TokenKind::Dot,
-        _ => TokenKind::Name,
-    }
-}
-
-// The tokens of a text in which a blank follows each of them.
-fn tokens_of(alloc: Global, text: &[u8]) -> Result<Tokens, Fail> {
-    let mut tokens = Seq::new(alloc);
-    let mut start = 0;
-    let mut line: u64 = 1;
-    for (end, byte) in text.iter().enumerate() {
-        if *byte != b' ' && *byte != b'\n' {
-            continue;
-        }
-        if start < end {
-            tokens.push(Token {
-                kind: kind_of(&text[start..end]),
-                start,
-                end,
-                line,
-            })?;
-        }
-        start = end + 1;
-        if *byte == b'\n' {
-            line = line.saturating_add(1);
-        }
-    }
-    Ok(tokens)
-}
-
-fn lie_within(tokens: &[Token], length: usize) -> bool
-    ensures { IsTrue result → LieWithin length tokens.now }
-{
-    tokens
-        .iter()
-        .all(|token| token.start <= token.end && token.end <= length)
-}
-
-// `head+positive-negated@line` for each rule, or `!line`.
+// What a text is: each statement as it is written below with its line, `!` and a line for a bad piece.
 fn outcome_of(rt: &impl Abort, alloc: Global, text: &[u8]) -> Result<Vec<u8>, Fail> {
-    let tokens = tokens_of(alloc, text)?;
-    assert!(rt; lie_within(tokens.as_slice(), text.len()));
+    let tokens = lex(alloc, text)?;
     let mut outcome = Vec::new(alloc);
     match parse(alloc, text, &tokens) {
-        Ok(rules) => {
-            for rule in rules.as_slice() {
-                write_rule(&mut outcome, rule)?;
+        Ok(statements) => {
+            for statement in statements.as_slice() {
+                write_statement(&mut outcome, statement)?;
             }
         }
         Err(ParseFault::BadStatement { line }) => {
@@ -68,55 +25,82 @@ fn outcome_of(rt: &impl Abort, alloc: Global, text: &[u8]) -> Result<Vec<u8>, Fa
     Ok(outcome)
 }
 
-fn write_rule(out: &mut Vec<u8>, rule: &SmallRule) -> Result<(), Fail> {
-    if let Some(head) = &rule.head {
-        out.extend_from_slice(head.as_slice())?;
-    }
-    for name in rule.pos.as_slice() {
-        out.push(b'+')?;
-        out.extend_from_slice(name.as_slice())?;
-    }
-    for name in rule.neg.as_slice() {
-        out.push(b'-')?;
-        out.extend_from_slice(name.as_slice())?;
+fn write_statement(out: &mut Vec<u8>, statement: &Statement) -> Result<(), Fail> {
+    match &statement.form {
+        Form::Rule { .. } => out.extend_from_slice(b"rule")?,
+        Form::Program { name, params } => {
+            out.extend_from_slice(name.as_slice())?;
+            for param in params.as_slice() {
+                out.push(b',')?;
+                out.extend_from_slice(param.as_slice())?;
+            }
+        }
+        Form::External { .. } => out.extend_from_slice(b"external")?,
+        Form::Const { name, .. } => {
+            out.push(b'=')?;
+            out.extend_from_slice(name.as_slice())?;
+        }
+        Form::Show { name, arity } => {
+            out.extend_from_slice(name.as_slice())?;
+            out.push(b'/')?;
+            out.push(digit(*arity))?;
+        }
+        Form::ShowNone => out.extend_from_slice(b"none")?,
+        Form::IncludeIncmode => out.extend_from_slice(b"incmode")?,
     }
     out.push(b'@')?;
-    out.push(digit(rule.line))?;
+    out.push(digit(statement.line))?;
     Ok(())
 }
 
-fn digit(line: u64) -> u8 {
-    b'0' + (line % 10) as u8
+fn digit(number: u64) -> u8 {
+    b'0' + (number % 10) as u8
 }
 
 #[test]
 fn texts_have_these_statements(rt: HostRuntime) -> Result<(), Fail> {
     let rows = [
         ("", "", "no tokens"),
-        ("a . ", "a@1", "a fact"),
-        ("a :- b , not c . ", "a+b-c@1", "a rule"),
-        (":- not a . ", "-a@1", "a constraint"),
+        ("#program base.", "base@1", "a program part"),
+        ("#program p(x,y).", "p,x,y@1", "parameters"),
+        ("#program p().", "p@1", "no parameters"),
+        ("#program p(x,x).", "!1", "parameters that are alike"),
+        ("#program p(x,y,x).", "!1", "parameters that are alike"),
+        ("#program p(x,).", "!1", "a comma at the end"),
+        ("#program p(x y).", "!1", "no comma between parameters"),
+        ("#program p(1).", "!1", "a number for a parameter"),
+        ("#program p(x)", "!1", "no dot"),
+        ("#program p(x)y.", "!1", "a name after the parenthesis"),
+        ("#program.", "!1", "a part without a name"),
+        ("#show p/2.", "p/2@1", "a signature"),
+        ("#show p/-1.", "!1", "a signed number"),
         (
-            "a :- c , not d , b , not e . ",
-            "a+c+b-d-e@1",
-            "literals in order",
+            "#show p/9223372036854775807.",
+            "p/7@1",
+            "the greatest number",
         ),
+        ("#show p/9223372036854775808.", "!1", "too great a number"),
+        ("#show.", "none@1", "no signature"),
+        ("#show p.", "!1", "half a signature"),
+        ("#show p/2/3.", "!1", "more than a signature"),
+        ("#include <incmode>.", "incmode@1", "the one that is there"),
+        ("#include <csp>.", "!1", "another name"),
+        ("#include <incmode.", "!1", "half a bracket"),
+        ("#const n==1.", "!1", "two signs for one"),
+        ("#const n.", "!1", "no value"),
+        (".", "!1", "a dot alone"),
+        ("#show.\n#show q/1.", "none@1q/1@2", "lines"),
         (
-            "a .\nb :-\na .\n:- b . ",
-            "a@1b+a@2+b@4",
-            "statements in lines",
+            "#show.\n#show\nq.",
+            "!2",
+            "the line of a piece's first token",
         ),
-        ("a b . ", "!1", "two names"),
-        ("a .\nb\nc .\n", "!2", "the line of a piece's first token"),
-        ("a .\nb\nc\n", "!2", "no dot at the end"),
-        ("a b .\nc d .\n", "!1", "the first of two bad pieces"),
-        ("a :- . ", "!1", "an empty body"),
-        (". ", "!1", "a dot alone"),
-        ("a :- b ", "!1", "no dot"),
-        ("a , b . ", "!1", "two heads"),
-        ("not a . ", "!1", "a negated head"),
-        ("a :- not . ", "!1", "not without a name"),
-        ("a :- b , . ", "!1", "a comma without a literal"),
+        ("#show.\n#show", "!2", "no dot at the end"),
+        (
+            "#show .. \n.\n#program.",
+            "!1",
+            "the first of two bad pieces",
+        ),
     ];
     for (text, wanted, case) in rows {
         let outcome = outcome_of(&rt, rt.alloc(), text.as_bytes())?;

@@ -1,5 +1,5 @@
 use Rattle.ms_parse.proofs.PieceLemmas.{first_piece}
-use Rattle.ms_parse.proofs.split_piece.Goals as goal
+use Rattle.ms_parse.proofs.piece.split_piece.Goals as goal
 use Rattle.std.proofs.Common.{sym, ◌∙◌}
 
 pub returns : goal.returns

@@ -1,0 +1,63 @@
+// What tokens say that stand by themselves: names and numbers.
+ghost use Rattle.std.specs.Prelude.{◌≡◌, ◌≤◌, length, IfOk, MatchOption, ◌<◌};
+ghost use Rattle.ms_text.specs.Tokens.{number_of};
+ghost use Rattle.ms_grammar.specs.Words.{word_of};
+ghost use Rattle.ms_grammar.specs.Terms.{greatest_numeral};
+ghost use Rattle.ms_parse.specs.Words.{is_name, name_in, numeral_in};
+
+use ms_base::memory::OutOfMemory;
+use ms_base::seq::{Bytes, Seq};
+use ms_text::token::{Token, TokenKind};
+use std::alloc::Global;
+
+/// The greatest number without a minus sign.
+const GREATEST: u64 = i64::MAX as u64;
+
+/// The name that the token is, if it is one.
+pub(crate) fn name_of(
+    alloc: Global,
+    text: &[u8],
+    token: Token,
+) -> Result<Option<Bytes>, OutOfMemory>
+    requires ordered { token.start ≤ token.end }
+    requires within { token.end ≤ length text.now }
+    ensures { IfOk result (λ found. found ≡ name_in (word_of text.now token)) }
+{
+    match token.kind {
+        TokenKind::Name => Ok(Some(Seq::copied(alloc, &text[token.start..token.end])?)),
+        _ => Ok(None),
+    }
+}
+
+/// The number that the token is, if it is one and no greater than it may be.
+pub(crate) fn numeral_of(text: &[u8], token: Token) -> Option<u64>
+    requires ordered { token.start ≤ token.end }
+    requires within { token.end ≤ length text.now }
+    ensures { result ≡ numeral_in (word_of text.now token) }
+{
+    match token.kind {
+        TokenKind::Number => number_of(&text[token.start..token.end]),
+        _ => None,
+    }
+}
+
+// The number that decimal digits stand for, where it is no greater than it may be.
+fn number_of(digits: &[u8]) -> Option<u64>
+    ensures { MatchOption result (greatest_numeral < number_of digits.now) (λ n. (n ≡ number_of digits.now) × (n ≤ greatest_numeral)) }
+{
+    let mut number: u64 = 0;
+    for digit in digits {
+        let tens = number.checked_mul(10)?;
+        number = tens.checked_add(u64::from(digit.saturating_sub(b'0')))?;
+    }
+    (number <= GREATEST).then_some(number)
+}
+
+/// Whether the token is this name.
+pub(crate) fn is_name(text: &[u8], token: Token, name: &[u8]) -> bool
+    requires ordered { token.start ≤ token.end }
+    requires within { token.end ≤ length text.now }
+    ensures { result ≡ is_name name.now (word_of text.now token) }
+{
+    matches!(token.kind, TokenKind::Name) && &text[token.start..token.end] == name
+}
