@@ -28,8 +28,7 @@ impl Cut {
         below: usize,
         trail: &Trail,
         store: &Nogoods,
-    ) -> Result<(), OutOfMemory>
-    {
+    ) -> Result<(), OutOfMemory> {
         if let Kind::Temporary = store.kind(key) {
             self.temporary = true;
         }
@@ -64,7 +63,12 @@ impl Cut {
     }
 
     /// The nogood, with the last literal first.
-    pub(crate) fn learned(self, top: usize, alloc: Global, trail: &Trail) -> Result<Learned, OutOfMemory> {
+    pub(crate) fn learned(
+        self,
+        top: usize,
+        alloc: Global,
+        trail: &Trail,
+    ) -> Result<Learned, OutOfMemory> {
         let back = match self.places.last() {
             Some(place) => trail.entry(*place).level,
             None => 0,

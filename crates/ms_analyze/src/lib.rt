@@ -15,8 +15,8 @@ mod tests;
 
 use cut::Cut;
 use ms_lits::{Lits, Trail};
-pub use ms_nogood::OutOfMemory;
 use ms_nogood::Nogoods;
+pub use ms_nogood::OutOfMemory;
 use std::alloc::Global;
 
 /// What a conflict teaches.
