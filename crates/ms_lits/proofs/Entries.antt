@@ -7,10 +7,10 @@ use Rattle.ms_lits.specs.Assignment.{entry_of, place_in}
 pub some_entry : Entry
 some_entry = record { lit = record { var = 0; truth = false }; level = 0; reason = None }
 
-entry_here : (e : Entry) (es : List Entry) (var : ℕ) → e.lit.var ≡ var → entry_of (e ∷ es) var ≡ Some e
+pub entry_here : (e : Entry) (es : List Entry) (var : ℕ) → e.lit.var ≡ var → entry_of (e ∷ es) var ≡ Some e
 entry_here e es var same = cond-true (nat_eq e.lit.var var) (Some e) (entry_of es var) (eq-eqb e.lit.var var same)
 
-entry_behind : (e : Entry) (es : List Entry) (var : ℕ) → (e.lit.var ≡ var → ⊥) → entry_of (e ∷ es) var ≡ entry_of es var
+pub entry_behind : (e : Entry) (es : List Entry) (var : ℕ) → (e.lit.var ≡ var → ⊥) → entry_of (e ∷ es) var ≡ entry_of es var
 entry_behind e es var other = cond-false (nat_eq e.lit.var var) (Some e) (entry_of es var) (ne_eqb e.lit.var var other)
 
 -- where an entry of the variable stands in one place alone, it is the variable's
