@@ -1,3 +1,4 @@
 pub mod Marked
 pub mod Trails
 pub mod Resolved
+pub mod Learning

@@ -1,5 +1,5 @@
 ghost use Rattle.std.specs.Prelude.{◌≡◌, ◌<◌, ◌≤◌, ◌∷◌, ◌++◌, [], ◌||◌, false, length, reverse, All, IfNone, IfOk, IfSome, IsSome, OnOk, Some};
-ghost use Rattle.ms_lits.specs.Assignment.{entry_of};
+ghost use Rattle.ms_lits.specs.Assignment.{IsAssignment, entry_of};
 ghost use Rattle.ms_nogood.specs.Store.{Stored, nogood_at};
 ghost use Rattle.ms_analyze.specs.Analysis.{IsOnlyDecision, is_temporary, is_temporary_kind};
 ghost use Rattle.ms_analyze.specs.Cuts.{HasPlace, IsAssignedAt, entry_at, last_level, level_at, lit_at, lits_at, marked};
@@ -61,6 +61,7 @@ impl Cut {
 
     /// The reason of the last place, which was taken out, where another place of the present level is left.
     pub(crate) fn reason_of(&self, last: usize, trail: &Trail) -> Option<usize>
+        requires assignment { IsAssignment trail.now }
         requires within { last < length trail.now.entries }
         requires below { All (λ place. place < last) self.now.places.keys }
         requires present { level_at trail.now.entries last ≡ trail.now.level }
