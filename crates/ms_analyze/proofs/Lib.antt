@@ -2,3 +2,4 @@ pub mod Marked
 pub mod Trails
 pub mod Resolved
 pub mod Learning
+pub mod Stages

@@ -9,6 +9,7 @@ use Rattle.ms_lits.specs.Literals.{Nogood, IsRefuted}
 use Rattle.ms_lits.specs.Assignment.{Assignment, entry_of, place_in}
 use Rattle.ms_nogood.specs.Store.{Store, Stored, nogood_at}
 use Rattle.ms_nogood.specs.Propagation.{nogoods_in}
+use Rattle.ms_analyze.specs.declared.Learned.{Learned}
 use Rattle.ms_analyze.specs.Analysis.{nogoods_not_temporary}
 
 abbrev pub no_entry : Entry
@@ -65,3 +66,9 @@ level_or_0 entries (Some place) = level_at entries place
 -- the level of the last place, or 0
 abbrev pub last_level : List Entry → List ℕ → ℕ
 last_level entries places = level_or_0 entries (slice_get places (length places - 1))
+
+-- What is read off a cut: the literal of the last place, and then the others by falling places.
+pub record IsReadOff (entries : List Entry) (places : List ℕ) (last : ℕ) (label : Bool) (learned : Learned) : Type 0 where
+  pub lits : learned.lits ≡ lit_at entries last ∷ lits_at entries (reverse places)
+  pub back : learned.back ≡ last_level entries places
+  pub temporary : learned.temporary ≡ label

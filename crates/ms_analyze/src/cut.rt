@@ -1,8 +1,10 @@
 ghost use Rattle.std.specs.Prelude.{◌≡◌, ◌<◌, ◌≤◌, ◌∷◌, ◌++◌, [], ◌||◌, false, length, reverse, All, IfNone, IfOk, IfSome, IsSome, OnOk, Some};
+ghost use Rattle.std.specs.Ordering.{nat_cmp};
+ghost use Rattle.std.specs.List.Sorted.{IsStrictlySortedBy};
 ghost use Rattle.ms_lits.specs.Assignment.{IsAssignment, entry_of};
 ghost use Rattle.ms_nogood.specs.Store.{Stored, nogood_at};
 ghost use Rattle.ms_analyze.specs.Analysis.{IsOnlyDecision, is_temporary, is_temporary_kind};
-ghost use Rattle.ms_analyze.specs.Cuts.{HasPlace, IsAssignedAt, entry_at, last_level, level_at, lit_at, lits_at, marked};
+ghost use Rattle.ms_analyze.specs.Cuts.{HasPlace, IsAssignedAt, IsReadOff, entry_at, level_at, marked};
 
 use crate::{Learned, OutOfMemory};
 use ms_base::seq::Seq;
@@ -51,6 +53,7 @@ impl Cut {
         requires { 0 < length self.old.places.keys }
         ensures places { self.old.places.keys ≡ self.new.places.keys ++ result ∷ [] }
         ensures below { All (λ place. place < result) self.new.places.keys }
+        ensures ordered { IsStrictlySortedBy nat_cmp self.new.places.keys }
         ensures temporary { self.new.temporary ≡ self.old.temporary }
     {
         match self.places.pop_last() {
@@ -86,9 +89,7 @@ impl Cut {
     ) -> Result<Learned, OutOfMemory>
         requires last { last < length trail.now.entries }
         requires within { All (λ place. place < length trail.now.entries) self.places.keys }
-        ensures lits { IfOk result (λ r. r.lits ≡ lit_at trail.now.entries last ∷ lits_at trail.now.entries (reverse self.places.keys)) }
-        ensures back { IfOk result (λ r. r.back ≡ last_level trail.now.entries self.places.keys) }
-        ensures temporary { IfOk result (λ r. r.temporary ≡ self.temporary) }
+        ensures { IfOk result (IsReadOff trail.now.entries self.places.keys last self.temporary) }
     {
         let back = match self.places.last() {
             Some(place) => trail.entry(*place).level,
