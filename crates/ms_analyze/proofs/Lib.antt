@@ -3,3 +3,4 @@ pub mod Trails
 pub mod Resolved
 pub mod Learning
 pub mod Stages
+pub mod Points
