@@ -5,9 +5,10 @@ use Rattle.std.proofs.lemmas.List.{get_or_default}
 use Rattle.ms_lits.specs.declared.trail.Entry.{Entry}
 use Rattle.ms_lits.specs.declared.trail.Mark.{Mark}
 use Rattle.ms_lits.specs.declared.trail.Mark.TheVariants.{Free}
-use Rattle.ms_lits.specs.Assignment.{Assignment, IsAssignment, entry_of, value_in}
+use Rattle.ms_lits.specs.Assignment.{Assignment, IsAssignment, entry_of, place_in, value_in}
 use Rattle.ms_lits.specs.Storage.{AreStored, IsTrail, assignment_in, truth_of, mark_for}
-use Rattle.ms_lits.proofs.Stored.{assigned_found, entry_read, value_marked, room_left, entries_few, stored_more}
+use Rattle.ms_lits.proofs.Stored.{assigned_found, entry_read, place_stored, value_marked, room_left, entries_few, stored_more}
+use Rattle.ms_lits.proofs.Entries.{some_entry}
 use Rattle.ms_lits.proofs.Leveled.{levels_rise}
 
 pub value_seen : (a : Assignment) (room : ℕ) (entries : List Entry) (places : List ℕ) (marks : List Mark) (ends : List ℕ) (var : ℕ) (mark : Mark) → assignment_in entries ends room ≡ a → AreStored room entries places marks → var < a.room → mark ≡ get_or marks var mark → truth_of mark ≡ value_in a.entries var
@@ -33,6 +34,21 @@ entry_seen a room entries places marks ends var place e view s below assigned re
     ap (λ (x : Assignment). entry_of x.entries var) (sym view)
     ∙ entry_read room entries places marks var place e s (omega arith) (subst P (sym view) assigned) read
     (place_seen a room entries places marks ends var place view s below assigned read) is
+
+pub place_is : (a : Assignment) (room : ℕ) (entries : List Entry) (places : List ℕ) (marks : List Mark) (ends : List ℕ) (var place : ℕ) → assignment_in entries ends room ≡ a → AreStored room entries places marks → var < a.room → IsSome (entry_of a.entries var) → place ≡ get_or places var place → place ≡ place_in a.entries var
+place_is a room entries places marks ends var place view s below assigned read =
+    let same : room ≡ a.room = ap (λ (x : Assignment). x.room) view in
+    let len = s.places_len in
+    let P : Assignment → Type 0 = λ x. IsSome (entry_of x.entries var) in
+    let f = assigned_found room entries places marks var s (omega arith) (subst P (sym view) assigned) in
+    read
+    ∙ get_or_default places var place 0 (omega arith)
+    ∙ sym (place_stored room entries places marks var some_entry s f)
+    ∙ ap (λ (x : Assignment). place_in x.entries var) view
+
+pub place_below : (a : Assignment) (room : ℕ) (entries : List Entry) (places : List ℕ) (marks : List Mark) (ends : List ℕ) (var place : ℕ) → assignment_in entries ends room ≡ a → AreStored room entries places marks → var < a.room → IsSome (entry_of a.entries var) → place ≡ get_or places var place → place < length a.entries
+place_below a room entries places marks ends var place view s below assigned read =
+    subst (λ (x : Assignment). place < length x.entries) view (place_seen a room entries places marks ends var place view s below assigned read)
 
 pub room_seen : (a : Assignment) (room : ℕ) (entries : List Entry) (places : List ℕ) (marks : List Mark) (ends : List ℕ) (var : ℕ) → assignment_in entries ends room ≡ a → AreStored room entries places marks → var < a.room → entry_of a.entries var ≡ None → length entries < room
 room_seen a room entries places marks ends var view s below absent =

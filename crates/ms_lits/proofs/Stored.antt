@@ -9,15 +9,21 @@ use Rattle.std.proofs.Math.Seq.{get_or-append_seam}
 use Rattle.ms_lits.specs.declared.trail.Entry.{Entry}
 use Rattle.ms_lits.specs.declared.trail.Mark.{Mark}
 use Rattle.ms_lits.specs.declared.trail.Mark.TheVariants.{Free}
-use Rattle.ms_lits.specs.Assignment.{entry_of, value_in}
+use Rattle.ms_lits.specs.Assignment.{entry_of, place_in, value_in}
 use Rattle.ms_lits.specs.Storage.{AreStored, IsFound, IsNoted, mark_for, truth_of, is_set}
-use Rattle.ms_lits.proofs.Entries.{some_entry, entry_first, entry_none, none_at}
+use Rattle.ms_lits.proofs.Entries.{some_entry, entry_first, place_first, entry_none, none_at}
 use Rattle.ms_lits.proofs.Marks.{truth_marked, set_marked, free_untrue, count_up, count_down, count_below, count_none}
 
 -- a marked variable has the entry in its place
 pub entry_stored : (room : ℕ) (entries : List Entry) (places : List ℕ) (marks : List Mark) (var : ℕ) (d : Entry) → AreStored room entries places marks → IsFound entries places var → entry_of entries var ≡ Some (get_or entries (get_or places var 0) d)
 entry_stored room entries places marks var d s found =
     entry_first entries var (get_or places var 0) d found.within (found.same d)
+    (λ i lt here. sym (s.noted i d lt).placed ∙ ap (λ v. get_or places v 0) here)
+
+-- and its place is that of the variable
+pub place_stored : (room : ℕ) (entries : List Entry) (places : List ℕ) (marks : List Mark) (var : ℕ) (d : Entry) → AreStored room entries places marks → IsFound entries places var → place_in entries var ≡ get_or places var 0
+place_stored room entries places marks var d s found =
+    place_first entries var (get_or places var 0) d found.within (found.same d)
     (λ i lt here. sym (s.noted i d lt).placed ∙ ap (λ v. get_or places v 0) here)
 
 -- a variable that isn't marked has none

@@ -1,5 +1,5 @@
 -- What contracts see of a trail: a partial assignment by levels.
-use Rattle.std.specs.Prelude.{ℕ, ◌≡◌, ◌<◌, ◌≤◌, ◌^◌, ◌⊎◌, ◌==◌, nat_le, Bool, cond, List, [], ◌∷◌, Option, Some, None, option_map, All, Contains, length}
+use Rattle.std.specs.Prelude.{ℕ, ◌≡◌, ◌<◌, ◌≤◌, ◌^◌, ◌⊎◌, ◌==◌, nat_le, Bool, cond, suc, List, [], ◌∷◌, Option, Some, None, option_map, All, Contains, length}
 use Rattle.std.specs.List.{filter, slice_index_or}
 use Rattle.ms_lits.specs.declared.lit.Lit.{Lit}
 use Rattle.ms_lits.specs.declared.trail.Entry.{Entry}
@@ -19,6 +19,11 @@ entry_made lit level reason = record { lit = lit; level = level; reason = reason
 abbrev pub entry_of : List Entry → ℕ → Option Entry
 entry_of [] var = None
 entry_of (e ∷ es) var = cond (e.lit.var == var) (Some e) (entry_of es var)
+
+-- the place of the first entry of a variable, or the number of entries where it has none
+abbrev pub place_in : List Entry → ℕ → ℕ
+place_in [] var = 0
+place_in (e ∷ es) var = cond (e.lit.var == var) 0 (suc (place_in es var))
 
 abbrev pub value_in : List Entry → ℕ → Option Bool
 value_in entries var = option_map (λ e. e.lit.truth) (entry_of entries var)

@@ -26,6 +26,7 @@ fn levels(rt: HostRuntime) -> Result<(), Fail> {
     assert_eq!(rt; trail.value(2), Some(false));
     assert_eq!(rt; trail.level_of(0), 1);
     assert_eq!(rt; trail.reason(0), Some(7));
+    assert_eq!(rt; trail.place_of(0), 1);
     trail.back_to(0);
     assert_eq!(rt; trail.level(), 0);
     assert_eq!(rt; trail.value(0), None);

@@ -1,6 +1,6 @@
 // A set of entries with the place of each variable, so that no call but `grow` takes memory.
 ghost use Rattle.std.specs.Prelude.{◌≡◌, ◌<◌, ◌≤◌, ◌∷◌, ◌++◌, [], length, max, option_map, slice_get, Some, None, OnOk, OnErr, IsSome, take, ◌+◌};
-ghost use Rattle.ms_lits.specs.Assignment.{IsAssignment, entry_of, value_in, up_to, entry_made};
+ghost use Rattle.ms_lits.specs.Assignment.{IsAssignment, entry_of, place_in, value_in, up_to, entry_made};
 ghost use Rattle.ms_lits.specs.Storage.{mark_for, truth_of};
 
 use crate::lit::Lit;
@@ -173,6 +173,16 @@ impl Trail {
         ensures { option_map (λ e. e.reason) (entry_of self.now.entries var) ≡ Some result }
     {
         self.entries[self.places[var as usize] as usize].reason
+    }
+
+    /// The place of an assigned variable's literal.
+    pub fn place_of(&self, var: u32) -> usize
+        requires room { var < self.now.room }
+        requires assigned { IsSome (entry_of self.now.entries var) }
+        ensures place { result ≡ place_in self.now.entries var }
+        ensures within { result < length self.now.entries }
+    {
+        self.places[var as usize] as usize
     }
 
     /// Goes back to a level that isn't above the present one, and keeps the literals up to it.

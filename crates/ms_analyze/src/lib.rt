@@ -1,0 +1,61 @@
+// Conflict analysis: from a nogood that is whole on a trail to the first unique implication point of the
+// present level.
+#![tactic(auto)]
+
+ghost use Rattle.std.specs.Prelude.{◌≡◌, ◌≢◌, ◌≤◌, ◌⊎◌, AllPairs, IfOk, IsTrue, false};
+ghost use Rattle.ms_lits.specs.Assignment.{IsWholeIn};
+ghost use Rattle.ms_lits.specs.Literals.{IsRefuted};
+ghost use Rattle.ms_nogood.specs.Propagation.{IsWholeAt, nogoods_in};
+ghost use Rattle.ms_nogood.specs.Store.{Stored, nogood_at};
+ghost use Rattle.ms_analyze.specs.Analysis.{AreReasoned, HasLevel, HasTemporaryReason, IsAsserting, IsGreatestBelow, IsOnlyDecision, IsTemporaryAt, nogoods_not_temporary};
+
+mod cut;
+#[cfg(test)]
+mod tests;
+
+use cut::Cut;
+use ms_lits::{Lits, Trail};
+use ms_nogood::Nogoods;
+pub use ms_nogood::OutOfMemory;
+use std::alloc::Global;
+
+/// What a conflict teaches.
+#[derive(Debug, Drop)]
+pub struct Learned {
+    /// A nogood. Its first literal is the one of the level of the conflict; the others come by falling levels.
+    pub lits: Lits,
+    /// The level to jump back to.
+    pub back: u32,
+    /// Whether the nogood may rest on a temporary one.
+    pub temporary: bool,
+}
+
+/// The first unique implication point of the present level, from a nogood that is whole on the trail.
+pub fn analyze(
+    alloc: Global,
+    trail: &Trail,
+    store: &Nogoods,
+    violated: usize,
+) -> Result<Learned, OutOfMemory>
+    requires level { 1 ≤ trail.now.level }
+    requires whole { IsWholeAt store.now trail.now.entries violated }
+    requires present { (s : Stored) → nogood_at store.now violated ≡ Some s → HasLevel trail.now.entries s.lits trail.now.level }
+    requires reasons { AreReasoned store.now trail.now.entries }
+    requires decision { IsOnlyDecision trail.now.level trail.now.entries }
+    ensures whole { IfOk result (λ r. IsWholeIn trail.now.entries r.lits) }
+    ensures different { IfOk result (λ r. AllPairs (λ l m. l.var ≢ m.var) r.lits) }
+    ensures asserting { IfOk result (λ r. IsAsserting trail.now r.lits r.back) }
+    ensures back { IfOk result (λ r. IsGreatestBelow trail.now r.lits r.back) }
+    ensures refuted { IfOk result (λ r. IsRefuted (nogoods_in store.now) r.lits) }
+    ensures lasting { IfOk result (λ r. r.temporary ≡ false → IsRefuted (nogoods_not_temporary store.now) r.lits) }
+    ensures temporary { IfOk result (λ r. IsTrue r.temporary → IsTemporaryAt store.now violated ⊎ HasTemporaryReason store.now trail.now.entries) }
+{
+    let mut cut = Cut::new(alloc);
+    cut.mark(violated, trail.len(), trail, store)?;
+    let mut top = cut.take_last();
+    while let Some(reason) = cut.reason_of(top, trail) {
+        cut.mark(reason, top, trail, store)?;
+        top = cut.take_last();
+    }
+    cut.learned(top, alloc, trail)
+}
