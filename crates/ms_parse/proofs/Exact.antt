@@ -40,4 +40,4 @@ module _ (D V : Type 0) (words : D → List Word) (spelled : D → Option V) whe
 
   -- the same over tokens
   pub exact_from_whole : (Ends : List Word → Type 0) → Ends [] → (text : List ℕ) (tokens : List Token) (found : Option (V × ℕ)) (result : Option V) → IsRead D V words spelled Ends (words_of text tokens) found → result ≡ whole found (length tokens) → IsExact D V words spelled (words_of text tokens) result
-  exact_from_whole Ends at_end text tokens found result read e = rw (e, ← length-map (word_of text) tokens) (exact_from_read Ends at_end (words_of text tokens) found read)
+  exact_from_whole Ends at_end text tokens found result read e = rw (e, ← length-map tokens (word_of text)) (exact_from_read Ends at_end (words_of text tokens) found read)

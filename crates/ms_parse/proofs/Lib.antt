@@ -1,2 +1,12 @@
 mod PieceLemmas
 mod Exact
+mod SignLemmas
+mod Digits
+mod NameLemmas
+mod Lines
+mod Apart
+mod Fronts
+mod Copies
+mod Bodies
+mod Tails
+mod Rules

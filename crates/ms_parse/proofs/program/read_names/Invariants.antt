@@ -5,8 +5,8 @@ use Rattle.ms_grammar.specs.Words.{words_of}
 use Rattle.ms_parse.specs.Words.{names_in}
 use Rattle.ms_parse.proofs.program.read_names.Given as goal
 
-abbrev pub invariant-loop-rest : goal.invariant-loop-rest
-invariant-loop-rest l = (names_in (words_of l.text l.tokens) ≡ option_map (λ ns. l.names ++ ns) (names_in (words_of l.text l.rest))) × LieWithin (length l.text) l.rest
+abbrev pub invariant-loop-first : goal.invariant-loop-first
+invariant-loop-first l = (names_in (words_of l.text l.tokens) ≡ option_map (λ ns. l.names ++ ns) (names_in (words_of l.text l.rest))) × LieWithin (length l.text) l.rest
 
-abbrev pub decreases-loop-rest : goal.decreases-loop-rest
-decreases-loop-rest l = length l.rest
+abbrev pub decreases-loop-first : goal.decreases-loop-first
+decreases-loop-first l = length l.rest
