@@ -1,16 +1,16 @@
 -- Which place is resolved next, and how the learned nogood is read off.
-use Rattle.std.proofs.Common.{ℕ, ◌≡◌, ◌<◌, ◌≤◌, ◌-◌, List, [], ◌∷◌, ◌++◌, Option, Some, None, Bool, true, false, length, get_or, option_map, refl, sym, ◌∙◌, ap, subst, arith, All, append_assoc, reverse, append-nil, IfSome, IfNone}
+use Rattle.std.proofs.Common.{ℕ, ◌≡◌, ◌<◌, ◌≤◌, ◌-◌, List, [], ◌∷◌, ◌++◌, Option, Some, None, false, length, get_or, option_map, refl, sym, ◌∙◌, ap, subst, arith, All, append_assoc, reverse, append-nil, IfSome, IfNone}
 use Rattle.std.proofs.lemmas.List.{reverse-append}
 use Rattle.std.specs.Prelude.{Contains, slice_get}
 use Rattle.std.specs.Ordering.{is_lt, nat_cmp}
-use Rattle.std.proofs.lemmas.Option.{get_or_from_slice_get, slice_get_cases}
+use Rattle.std.proofs.lemmas.Option.{get_or_from_slice_get}
 use Rattle.std.proofs.lemmas.Map.Keys.{ge_from_not_lt}
-use Rattle.std.proofs.lemmas.List.Elements.{All-contains, Contains-get_or}
+use Rattle.std.proofs.lemmas.List.Elements.{Contains-get_or}
 use Rattle.ms_lits.specs.declared.lit.Lit.{Lit}
 use Rattle.ms_lits.specs.declared.trail.Entry.{Entry}
 use Rattle.ms_lits.specs.Assignment.{Assignment, IsAssignment}
 use Rattle.ms_analyze.specs.Analysis.{IsOnlyDecision}
-use Rattle.ms_analyze.specs.Cuts.{HasPlace, entry_at, last_level, level_at, level_or_0, lit_at, lits_at, no_entry}
+use Rattle.ms_analyze.specs.Cuts.{entry_at, last_level, level_at, level_or_0, lit_at, lits_at, no_entry}
 
 pub entry_read : (entries : List Entry) (p : ℕ) (e : Entry) → slice_get entries p ≡ Some e → entry_at entries p ≡ e
 entry_read entries p e read = get_or_from_slice_get entries p e no_entry read

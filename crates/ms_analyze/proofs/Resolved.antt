@@ -1,6 +1,6 @@
 -- Refutation of what is marked.
-use Rattle.std.proofs.Common.{ℕ, ◌≡◌, ◌<◌, ◌⊎◌, inl, inr, zero, suc, List, [], ◌∷◌, ◌++◌, Option, Some, None, Bool, true, false, cond, length, get_or, take, option_map, refl, sym, ◌∙◌, ap, subst, arith, All, ◌||◌}
-use Rattle.std.specs.Prelude.{Contains, IsTrue, is_some, map}
+use Rattle.std.proofs.Common.{ℕ, ◌≡◌, ◌<◌, ◌⊎◌, inl, inr, zero, suc, List, [], ◌∷◌, ◌++◌, Option, Some, None, Bool, true, false, length, get_or, take, option_map, refl, sym, ◌∙◌, ap, subst, arith, All, ◌||◌}
+use Rattle.std.specs.Prelude.{Contains, IsTrue, is_some}
 use Rattle.std.specs.List.{cons_option, filter_map}
 use Rattle.std.proofs.lemmas.Bool.{cases_Bool, cond-true, cond-false}
 use Rattle.std.proofs.lemmas.List.Elements.{All-contains, All-contains_itself, All-map, All-nil, All-push, All-weaker, Contains-append_left, Contains-get_or, Contains-push}
@@ -16,7 +16,7 @@ use Rattle.ms_refutation.proofs.Laws.{resolvent_refuted}
 use Rattle.ms_analyze.specs.Analysis.{is_temporary, is_temporary_kind, lasting_literals_of, nogoods_not_temporary}
 use Rattle.ms_analyze.specs.Cuts.{IsCut, lit_at, lits_at, marked}
 use Rattle.ms_analyze.proofs.Marked.{Contains-first, Contains-behind, Contains-cases, marked_all, marked_has, marked_keeps}
-use Rattle.ms_analyze.proofs.Trails.{front_entry, front_place, holds_entry, lit_placed, placed}
+use Rattle.ms_analyze.proofs.Trails.{front_entry, front_place, holds_entry, lit_placed}
 
 pub All-last : (P : ℕ → Type 0) (xs : List ℕ) (x : ℕ) → All P (xs ++ x ∷ []) → P x
 All-last P xs x all = All-contains P (xs ++ x ∷ []) x all (Contains-push xs x)

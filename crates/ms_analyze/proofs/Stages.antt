@@ -1,17 +1,17 @@
 -- The stages of an analysis: a cut whose last place is of the present level.
-use Rattle.std.proofs.Common.{ℕ, ◌≡◌, ◌<◌, ◌≤◌, ◌⊎◌, inl, inr, List, [], ◌∷◌, ◌++◌, Option, Some, None, Bool, true, false, length, get_or, take, option_map, refl, sym, ◌∙◌, ap, subst, arith, All, ◌||◌}
+use Rattle.std.proofs.Common.{ℕ, ◌≡◌, ◌<◌, ◌⊎◌, inl, inr, List, [], ◌∷◌, ◌++◌, Option, Some, Bool, true, false, length, get_or, take, option_map, refl, sym, ◌∙◌, ap, subst, arith, All, ◌||◌}
 use Rattle.std.specs.Prelude.{Contains, IsTrue, IsSome}
 use Rattle.std.specs.Ordering.{nat_cmp}
 use Rattle.std.specs.List.Sorted.{IsStrictlySortedBy}
-use Rattle.std.proofs.lemmas.List.Elements.{All-contains, All-weaker, Contains-append_left, Contains-get_or, Contains-push, Contains-push_cases}
+use Rattle.std.proofs.lemmas.List.Elements.{All-contains, Contains-get_or, Contains-push_cases}
 use Rattle.ms_lits.specs.declared.lit.Lit.{Lit}
 use Rattle.ms_lits.specs.declared.trail.Entry.{Entry}
 use Rattle.ms_lits.specs.Literals.{Nogood, opposite_of}
 use Rattle.ms_lits.specs.Assignment.{Assignment, HoldsIn, IsAssignment, IsUnitIn, IsWholeIn, entry_of, place_in}
 use Rattle.ms_nogood.specs.Store.{Store, Stored, nogood_at}
-use Rattle.ms_nogood.specs.Propagation.{IsForced, IsWholeAt}
-use Rattle.ms_analyze.specs.Analysis.{AreReasoned, HasLevel, HasTemporaryReason, IsTemporaryAt, is_temporary, level_in}
-use Rattle.ms_analyze.specs.Cuts.{HasPlace, IsAssignedAt, IsCut, entry_at, level_at, lit_at, lits_at, marked, no_entry}
+use Rattle.ms_nogood.specs.Propagation.{IsWholeAt}
+use Rattle.ms_analyze.specs.Analysis.{AreReasoned, HasLevel, HasTemporaryReason, IsTemporaryAt, is_temporary}
+use Rattle.ms_analyze.specs.Cuts.{HasPlace, IsAssignedAt, IsCut, entry_at, level_at, lit_at, marked, no_entry}
 use Rattle.ms_analyze.proofs.Marked.{marked_all, marked_has, marked_keeps}
 use Rattle.ms_analyze.proofs.Resolved.{All-last, cut_start, cut_step}
 use Rattle.ms_analyze.proofs.Trails.{entry_there, front_entry, holds_entry, placed}
@@ -124,6 +124,11 @@ last_present a places last t within below has =
 true_either : (a b : Bool) → IsTrue (a || b) → IsTrue a ⊎ IsTrue b
 true_either true b is = inl refl
 true_either false b is = inr is
+
+-- what is marked at the start
+pub start_marked : (entries : List Entry) (lits : Nogood) (all old : List ℕ) (below : ℕ) → all ≡ marked entries below old lits → below ≡ length entries → old ≡ [] → all ≡ marked entries (length entries) [] lits
+start_marked entries lits all old below is end empty =
+    is ∙ ap (λ (n : ℕ). marked entries n old lits) end ∙ ap (λ (ps : List ℕ). marked entries (length entries) ps lits) empty
 
 -- the first stage
 pub stage_start : (store : Store) (a : Assignment) (violated : ℕ) (all places : List ℕ) (last : ℕ) (temporary : Bool) → IsAssignment a → (whole : IsWholeAt store a.entries violated) → HasLevel a.entries whole.stored.lits a.level → all ≡ marked a.entries (length a.entries) [] whole.stored.lits → temporary ≡ (false || is_temporary (nogood_at store violated)) → all ≡ places ++ last ∷ [] → All (λ (p : ℕ). p < last) places → IsStrictlySortedBy nat_cmp places → IsStage store a violated places last temporary

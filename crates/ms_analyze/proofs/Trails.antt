@@ -1,10 +1,10 @@
 -- What stands in the places of a trail.
 use Rattle.std.proofs.Common.{ℕ, ◌≡◌, ◌<◌, ◌≤◌, inl, inr, zero, suc, List, [], ◌∷◌, Option, Some, None, Bool, true, false, length, get_or, take, option_map, refl, sym, ◌∙◌, ap, subst, arith, eq-eqb, nat_eq, nat_le}
-use Rattle.std.proofs.lemmas.Bool.{cases_Bool, cases_eq, cond-true, cond-false, ne_eqb, le-leb, both_ways, leb-true}
+use Rattle.std.proofs.lemmas.Bool.{cases_Bool, cases_eq, cond-true, cond-false, ne_eqb, le-leb, leb-true}
 use Rattle.ms_lits.specs.declared.lit.Lit.{Lit}
 use Rattle.ms_lits.specs.declared.trail.Entry.{Entry}
 use Rattle.ms_lits.specs.Assignment.{Assignment, HoldsIn, IsAssignment, entry_of, place_in, up_to}
-use Rattle.ms_lits.proofs.Entries.{entry_behind, entry_first, entry_here, place_first}
+use Rattle.ms_lits.proofs.Entries.{entry_behind, entry_first, entry_here}
 use Rattle.ms_nogood.proofs.Looks.{lit_same}
 use Rattle.ms_analyze.specs.Analysis.{level_in}
 use Rattle.ms_analyze.specs.Cuts.{lit_at, level_at, no_entry}

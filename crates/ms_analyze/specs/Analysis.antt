@@ -1,12 +1,12 @@
 -- What conflict analysis needs of a trail and a store, and what it says of the nogood that it learns.
 -- Source: Gebser, Kaufmann and Schaub, "Conflict-driven answer set solving: from theory to practice" (2012).
-use Rattle.std.specs.Prelude.{ℕ, ◌≡◌, ◌<◌, ◌≤◌, ◌⊎◌, ◌∷◌, ◌==◌, Bool, true, false, cond, List, Option, Some, None, option_map, take, length, All, Contains, IsTrue}
+use Rattle.std.specs.Prelude.{ℕ, ◌≡◌, ◌<◌, ◌≤◌, ◌⊎◌, ◌∷◌, Bool, true, false, cond, List, Option, Some, None, option_map, take, length, All, Contains, IsTrue}
 use Rattle.std.specs.List.{filter_map, slice_index_or}
 use Rattle.ms_lits.specs.declared.lit.Lit.{Lit}
 use Rattle.ms_lits.specs.declared.trail.Entry.{Entry}
 use Rattle.ms_lits.specs.Literals.{Nogood}
 use Rattle.ms_lits.specs.Assignment.{Assignment, IsUnitIn, entry_of, up_to}
-use Rattle.ms_nogood.specs.Store.{Store, Stored, awake_in, nogood_at}
+use Rattle.ms_nogood.specs.Store.{Store, Stored, nogood_at}
 use Rattle.ms_nogood.specs.Propagation.{IsForced, literals_of}
 use Rattle.ms_nogood.specs.declared.kind.Kind.{Kind}
 use Rattle.ms_nogood.specs.declared.kind.Kind.TheVariants.{Base, Kept, Temporary, Reason}

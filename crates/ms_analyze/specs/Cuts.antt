@@ -1,5 +1,5 @@
 -- A nogood that is whole on a trail, as the places of its literals.
-use Rattle.std.specs.Prelude.{ℕ, ◌≡◌, ◌<◌, ◌≤◌, ◌-◌, ◌∷◌, [], Bool, false, nat_lt, cond, List, Option, Some, None, map, reverse, length, slice_get, All, Contains, IsSome, true}
+use Rattle.std.specs.Prelude.{ℕ, ◌≡◌, ◌<◌, ◌≤◌, ◌-◌, ◌∷◌, [], Bool, false, nat_lt, cond, List, Option, Some, None, map, reverse, length, slice_get, All, Contains, IsSome}
 use Rattle.std.specs.List.{slice_index_or}
 use Rattle.std.specs.Ordering.{nat_cmp}
 use Rattle.std.specs.BTreeSet.{insert_key}

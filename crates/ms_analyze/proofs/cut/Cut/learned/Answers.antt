@@ -1,4 +1,4 @@
-use Rattle.std.proofs.Common.{◌≡◌, ◌<◌, ◌∙◌, ◌∷◌, ap, sym, refl, subst, arith, All, List, length, reverse}
+use Rattle.std.proofs.Common.{◌≡◌, ◌<◌, ◌∙◌, ◌∷◌, ap, refl, subst, All, length, reverse}
 use Rattle.ms_analyze.specs.Cuts.{lit_at, lits_at}
 use Rattle.ms_analyze.proofs.Learning.{all_read, last_read, lit_read, none_read, rest_more}
 use Rattle.ms_analyze.proofs.Resolved.{All-front}

@@ -1,4 +1,4 @@
-use Rattle.std.proofs.Common.{◌≡◌, ◌<◌, ◌≤◌, ◌∙◌, ap, sym, subst, arith, All, List, length, refl, true}
+use Rattle.std.proofs.Common.{◌<◌, ◌≤◌, ap, sym, subst, arith, length, refl}
 use Rattle.ms_lits.specs.declared.trail.Entry.{Entry}
 use Rattle.ms_analyze.proofs.Learning.{all_lower, entry_read, has_reason, last_among, last_below, none_absurd, some_any, some_itself}
 use Rattle.ms_analyze.proofs.cut.Cut.reason_of.Goals as goal
