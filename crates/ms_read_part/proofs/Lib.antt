@@ -1,2 +1,4 @@
 pub mod Inputs
 pub mod Combined
+pub mod Fronts
+pub mod Leads
