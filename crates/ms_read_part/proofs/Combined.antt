@@ -31,12 +31,12 @@ module _ {A B V : Type 0} {wa : A → List Word} {wb : B → List Word} {sa : A 
   -- A reader of one grammar reads another, if these words can be spelled in the one where they are in the other.
   pub Reads-same : {E : List Word → Type 0} {ws : List Word} {found : Option (V × List Word)}
       → ((a : A) (v : V) → sa a ≡ Some v → IsSpelled B V wb sb (wa a) v)
-      → ((b : B) (rest : List Word) (v : V) → ws ≡ wb b ++ rest → sb b ≡ Some v → IsSpelled A V wa sa (wb b) v)
+      → ((b : B) (rest : List Word) (v : V) → ws ≡ wb b ++ rest → E rest → sb b ≡ Some v → IsSpelled A V wa sa (wb b) v)
       → Reads A V wa sa E ws found → Reads B V wb sb E ws found
   Reads-same {E} {ws} {found} to from read = record {
     sound = IfSome-more (λ f. IsCut A V wa sa ws f.0 f.1) (λ f. IsCut B V wb sb ws f.0 f.1) found (λ f cut. IsCut-same to ws f.1 f.0 cut) read.sound;
     complete = λ b rest v words_are ends spells.
-        let a = from b rest v words_are spells in
+        let a = from b rest v words_are ends spells in
         read.complete a.derivation rest v (words_are ∙ ap (λ x. x ++ rest) (sym a.words_are)) ends a.spells;
   }
 
@@ -128,16 +128,15 @@ module _ (A B V W : Type 0) (wa : A → List Word) (wb : B → List Word) (sa : 
   then-sound ws mid x None first second = tt
   then-sound ws mid x (Some f) first second = IsCut-then ws mid f.1 x f.0 first second
 
+  then-complete : (mid : List Word) (x : V) (found : Option (W × List Word)) (rest : List Word) (v : V × W) (x' : V) (y : W) → x ≡ x' → found ≡ Some (y, rest) → Some (x', y) ≡ Some v → behind x found ≡ Some (v, rest)
+  then-complete mid x found rest v x' y same is value = rw (is, same) (ap (option_map (λ z. (z, rest))) value)
+
   pub Reads-then : {ws mid : List Word} {x : V} {found : Option (W × List Word)} → Reads A V wa sa E ws (Some (x, mid)) → Reads B W wb sb F mid found
       → Reads (A × B) (V × W) (words_then wa wb) (spelled_then sa sb) F ws (behind x found)
   Reads-then {ws} {mid} {x} {found} first second = record {
     sound = then-sound ws mid x found first.sound second.sound;
     complete = λ d rest v words_are ends spells.
         let parts = both-some (λ x y. Some (x, y)) (sa d.0) (sb d.1) v spells in
-        let found_first = first.complete d.0 (wb d.1 ++ rest) parts.0 (words_are ∙ append_assoc (wa d.0) (wb d.1) rest) (follows d.1 parts.1 rest parts.3 ends) parts.2 in
-        let same = (found-parts found_first).0 in
-        let rest_is = (found-parts found_first).1 in
-        let found_second = second.complete d.1 rest parts.1 rest_is ends parts.3 in
-        let value : Some (parts.0, parts.1) ≡ Some v = parts.4 in
-        ap (behind x) found_second ∙ ap (λ z. Some ((z, parts.1), rest)) same ∙ ap (option_map (λ z. (z, rest))) value;
+        let same = found-parts (first.complete d.0 (wb d.1 ++ rest) parts.0 (words_are ∙ append_assoc (wa d.0) (wb d.1) rest) (follows d.1 parts.1 rest parts.3 ends) parts.2) in
+        then-complete mid x found rest v parts.0 parts.1 same.0 (second.complete d.1 rest parts.1 same.1 ends parts.3) parts.4;
   }

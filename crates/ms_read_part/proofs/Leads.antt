@@ -47,7 +47,7 @@ Reads-cut {D} {V} {w} {s} {E} {ws} {found} read = record {
 pub read_within : {D V : Type 0} {w : D → List Word} {s : D → Option V} {E : List Word → Type 0} {ws : List Word} {v : V} {n : ℕ} → IsRead D V w s E ws (Some (v, n)) → n ≤ length ws
 read_within read = read.sound.within
 
-abbrev lead_from : Bool → Part → Lead
+abbrev pub lead_from : Bool → Part → Lead
 lead_from b part = record { part = part; named = b }
 
 abbrev led_from : Bool → Option (Part × List Word) → Option (Lead × List Word)
@@ -79,9 +79,9 @@ Reads-led {ws} {found} read = record {
 pub lead_none : {ws : List Word} → IsRead Term Part term_words term_part EndsTerm ws None → Reads Term Lead term_words lead_spelled EndsTerm ws None
 lead_none read = Reads-led (Reads-cut read)
 
-pub lead_some : {ws : List Word} {part : Part} {n : ℕ} (b : Bool) (rest : List Word) → IsRead Term Part term_words term_part EndsTerm ws (Some (part, n)) → b ≡ is_name (front_kind ws) → rest ≡ drop n ws
+pub lead_some : {ws words : List Word} {part : Part} {n : ℕ} (b : Bool) (rest : List Word) → IsRead Term Part term_words term_part EndsTerm words (Some (part, n)) → words ≡ ws → b ≡ is_name (front_kind ws) → rest ≡ drop n ws
     → Reads Term Lead term_words lead_spelled EndsTerm ws (Some (record { part = part; named = b }, rest))
-lead_some {ws} {part} {n} b rest read b_is rest_is = rw (b_is, rest_is) (Reads-led (Reads-cut read))
+lead_some {ws} {words} {part} {n} b rest read same b_is rest_is = rw (b_is, rest_is) (Reads-led (Reads-cut (rw same at read)))
 
 -- `read_bounded`
 abbrev pub lead_bounded : Lead → Option (Counted TextTerm)
@@ -95,7 +95,7 @@ pub Reads-bounded : {ws : List Word} {found : Option (Lead × List Word)} → Re
 Reads-bounded read =
     Reads-same
     (λ t v e. record { derivation = t; words_are = refl; spells = sym (bounded-same (is_name (front_kind (term_words t))) (term_part t)) ∙ e })
-    (λ t rest v words_are e. record { derivation = t; words_are = refl; spells = bounded-same (is_name (front_kind (term_words t))) (term_part t) ∙ e })
+    (λ t rest v words_are ends e. record { derivation = t; words_are = refl; spells = bounded-same (is_name (front_kind (term_words t))) (term_part t) ∙ e })
     (Reads-mapped lead_bounded read)
 
 not_name : (front : Option TokenKind) → front ≢ Some Name → false ≡ is_name front

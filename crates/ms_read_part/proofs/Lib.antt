@@ -2,3 +2,4 @@ pub mod Inputs
 pub mod Combined
 pub mod Fronts
 pub mod Leads
+pub mod Atoms
