@@ -3,3 +3,5 @@ pub mod Combined
 pub mod Fronts
 pub mod Leads
 pub mod Atoms
+pub mod Counts
+pub mod Rowed
