@@ -37,12 +37,12 @@ module _ (D V : Type 0) (words : D → List Word) (spelled : D → Option V) (ki
   pub content_of_line : (ws : List Word) (found : Option V) → IsExact D V words spelled ws found → IsContent (sign kind ∷ ws) (option_map f found)
   content_of_line ws found h = record {
     sound = sound_line ws found h.sound;
-    complete = λ s value words spells.
-      let d = covers s ws words in
+    complete = λ s value e spells.
+      let d = covers s ws e in
       let here : option_map f (spelled d.0) ≡ Some value = sym (spelled_is d.0) ∙ ap sentence_spelled d.1 ∙ spells in
       let p = part_from f (spelled d.0) value here in
-      let rest : sign kind ∷ words d.0 ≡ sign kind ∷ ws = sym (words_are d.0) ∙ ap content_words d.1 ∙ words in
-      ap (option_map f) (h.complete d.0 p.0 cc p.1) ∙ ap Some p.2;
+      let rest : sign kind ∷ words d.0 ≡ sign kind ∷ ws = sym (words_are d.0) ∙ ap content_words d.1 ∙ e in
+      ap (option_map f) (h.complete d.0 p.0 (cc) p.1) ∙ ap Some p.2;
   }
 
 program_covers : (s : Sentence) (ws : List Word) → content_words s ≡ sign Program ∷ ws → (l : ProgramLine) × (program l.program_name l.params l.differ ≡ s)
@@ -122,10 +122,18 @@ record IsShown (ws : List Word) (found : Option Form) : Type 0 where
   pub words_are : show_words line ≡ ws
   pub spells : show_spelled line ≡ found
 
+nothing_shown : (b : Bool) (n : ℕ) (form : Form) → option_and_then (λ (arity : ℕ). None) (cond b (Some n) None) ≡ Some form → ⊥
+nothing_shown true n form e = cc
+nothing_shown false n form e = cc
+
+signature_from : (p n : Word) (form : Form) → show_in (p ∷ sign Slash ∷ n ∷ []) ≡ Some form → IsShown (p ∷ sign Slash ∷ n ∷ []) (Some form)
+signature_from (name p) (number n) form e = record { line = signature p n; words_are = refl; spells = sym (show_in-words (signature p n)) ∙ e }
+signature_from p (number n) form e = absurd (nothing_shown (nat_le n greatest_numeral) n form e)
+signature_from _ _ form e = absurd (let f : ⊥ = cc in f)
+
 show_from : (ws : List Word) (form : Form) → show_in ws ≡ Some form → IsShown ws (Some form)
 show_from [] form e = record { line = nothing; words_are = refl; spells = e }
-show_from (name p ∷ sign Slash ∷ number n ∷ []) form e = record { line = signature p n; words_are = refl; spells = sym (show_in-words (signature p n)) ∙ e }
-show_from (_ ∷ sign Slash ∷ number n ∷ []) form e = ?
+show_from (p ∷ sign Slash ∷ n ∷ []) form e = signature_from p n form e
 show_from _ form e = absurd (let f : ⊥ = cc in f)
 
 sound_show : (ws : List Word) (found : Option Form) → show_in ws ≡ found → IfSome found (IsSpelled ShowLine Form show_words show_spelled ws)
@@ -138,8 +146,12 @@ content_of_show ws = content_of_line ShowLine Form show_words show_spelled Show 
   complete = λ l form words spelled. ap show_in (sym words) ∙ show_in-words l ∙ spelled;
 })
 
+incmode_name : (w : Word) → is_name (codes "incmode") w ≡ true → w ≡ name (codes "incmode")
+incmode_name (name n) e = ap name ((bytes_decides n (codes "incmode")).0 e)
+incmode_name _ e = cc
+
 include_words : (ws : List Word) → is_incmode ws ≡ true → ws ≡ sign Less ∷ name (codes "incmode") ∷ sign Greater ∷ []
-include_words (sign Less ∷ name n ∷ sign Greater ∷ []) e = ap (λ m. sign Less ∷ name m ∷ sign Greater ∷ []) ((bytes_decides n (codes "incmode")).0 e)
+include_words (sign Less ∷ w ∷ sign Greater ∷ []) e = ap (λ v. sign Less ∷ v ∷ sign Greater ∷ []) (incmode_name w e)
 include_words _ e = absurd (let f : ⊥ = cc in f)
 
 include_only : (s : Sentence) (ws : List Word) → content_words s ≡ sign Include ∷ ws → (s ≡ include) × (sign Less ∷ name (codes "incmode") ∷ sign Greater ∷ [] ≡ ws)

@@ -1,5 +1,6 @@
 -- Rules don't begin with the word of a directive.
-use Rattle.std.proofs.Common.{◌≡◌, ℕ, Bool, true, false, ⊤, List, [], ◌∷◌, ◌++◌, Option, Some, None, refl, append_assoc}
+use Rattle.std.proofs.Common.{◌≡◌, ℕ, Bool, true, false, List, [], ◌∷◌, ◌++◌, Option, Some, None, refl, append_assoc}
+use Rattle.std.specs.Bool.{⊤}
 use Rattle.ms_text.specs.declared.token.TokenKind.TheVariants.{Program, External, Const, Show, Include}
 use Rattle.ms_grammar.specs.Words.{Word, name, sign}
 use Rattle.ms_grammar.specs.Terms.{Primary, numeral, string, constant, function, parenthesis, absolute, primary_words, Unary, primary, negative, least, unary_words, Product, unary, times, over, modulo, product_words, Sum, product, plus, minus, sum_words, Term, single, interval, term_words}

@@ -67,7 +67,7 @@ module _ (ws vs : List Word) (begins : ws ≡ sign If ∷ vs) (some : vs ≡ [] 
   body_of : (t : Tail) (value : Parts) → tail_words t ≡ ws → tail_spelled t ≡ Some value → found ≡ Some value
   body_of no_tail value words spelled = cc
   body_of empty_tail value words spelled = absurd (some cc)
-  body_of (tail b) value words spelled = h.complete b value cc spelled
+  body_of (tail b) value words spelled = h.complete b value (cc) spelled
 
   sound_tail : (o : Option Parts) → IfSome o (IsSpelled Body Parts body_words body_spelled vs) → IfSome o (IsSpelled Tail Parts tail_words tail_spelled ws)
   sound_tail None s = tt
