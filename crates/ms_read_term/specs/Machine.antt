@@ -6,7 +6,7 @@ use Rattle.ms_text.specs.declared.token.TokenKind.TheVariants.{Name, Number as N
 use Rattle.ms_grammar.specs.declared.term.TextTerm.{Number, Text, Function, Abs}
 use Rattle.ms_grammar.specs.declared.part.Part.{Part}
 use Rattle.ms_grammar.specs.Words.{Word, name, number, quoted, sign}
-use Rattle.ms_grammar.specs.Terms.{leaf, round, with_term, greatest_numeral}
+use Rattle.ms_grammar.specs.Terms.{leaf, round, greatest_numeral}
 use Rattle.ms_read_term.specs.declared.level.SumSign.{SumSign}
 use Rattle.ms_read_term.specs.declared.level.SumSign.TheVariants.{Plus, Minus}
 use Rattle.ms_read_term.specs.declared.level.ProductSign.{ProductSign}
@@ -21,7 +21,7 @@ use Rattle.ms_read_term.specs.declared.reader.Turn.{Turn}
 use Rattle.ms_read_term.specs.declared.reader.Turn.TheVariants.{Next, Found, Refused}
 use Rattle.ms_read_term.specs.declared.reader.Reader.{Reader}
 use Rattle.ms_read_term.specs.Closing.{negated, no_level, is_bare, closed_product, closed_sum, closed_term}
-use Rattle.ms_read_term.specs.Brackets.{row_so_far, ended_with, ended_bare, bracket_part}
+use Rattle.ms_read_term.specs.Brackets.{ended_with, ended_bare, bracket_part, new_frame, frame_with, outside_of_bar}
 
 -- What a word was: one of the term, after which the reader goes on, the first one behind the term, or one that no
 -- term goes on with.
@@ -47,9 +47,12 @@ wanted frames level = record { frames = frames; level = level; place = Wanted }
 abbrev pub at_start : Reader
 at_start = wanted [] no_level
 
--- behind a bracket or a semicolon
+-- in a bracket, behind the bracket, a `,` or a `;`
+abbrev pub reopened : List Frame → Frame → Outcome
+reopened frames frame = next (wanted (frame ∷ frames) no_level)
+
 abbrev pub opened : List Frame → Level → Bracket → Outcome
-opened frames outside bracket = next (wanted (record { outside = outside; bracket = bracket; row = None } ∷ frames) no_level)
+opened frames outside bracket = reopened frames (new_frame outside bracket)
 
 -- behind a part with so many minuses before it
 abbrev pub landed : List Frame → Level → ℕ → Part → Outcome
@@ -117,27 +120,27 @@ low_pending_in false frames level p = made (λ q. next (wanted frames (record { 
 abbrev pub low_pending : List Frame → Level → Part → Outcome
 low_pending frames level p = low_pending_in (is_some level.low) frames level p
 
--- behind a comma in a bracket
-abbrev pub comma_in : Bracket → List Frame → Frame → Part → Outcome
-comma_in Bar frames frame t = refused
-comma_in bracket frames frame t = next (wanted (record frame { row = Some (with_term (row_so_far frame.row) t) } ∷ frames) no_level)
-
+-- behind a `,` behind a term in a bracket
 abbrev pub comma : List Frame → Frame → Part → Outcome
-comma frames frame t = comma_in frame.bracket frames frame t
+comma frames frame t = made (reopened frames) (frame_with frame t)
+
+-- behind a `;` behind a term in a bracket
+abbrev pub semicolon : List Frame → Frame → Part → Outcome
+semicolon frames frame t = made (opened frames frame.outside) (ended_with frame.bracket frame.row t)
+
+-- behind a closing parenthesis behind a term in a bracket
+abbrev pub right_paren : List Frame → Frame → Part → Outcome
+right_paren frames frame t = made (closed frames frame.outside) (ended_with frame.bracket frame.row t)
 
 -- behind the bar that closes a bracket
-abbrev pub barred_in : Bracket → List Frame → Level → Part → Outcome
-barred_in Bar frames outside t = made (landed frames outside outside.minuses) (round Abs t)
-barred_in bracket frames outside t = refused
-
 abbrev pub barred : List Frame → Frame → Part → Outcome
-barred frames frame t = barred_in frame.bracket frames frame.outside t
+barred frames frame t = made (λ outside. made (landed frames outside outside.minuses) (round Abs t)) (outside_of_bar frame)
 
 -- After a token behind a term in a bracket. An interval isn't closed by a bar.
 abbrev pub divided : List Frame → Frame → Bool → Part → TokenKind → Outcome
 divided frames frame is_interval t Comma = comma frames frame t
-divided frames frame is_interval t Semicolon = made (list_ended frames frame.outside Semicolon) (ended_with frame.bracket frame.row t)
-divided frames frame is_interval t RightParen = made (list_ended frames frame.outside RightParen) (ended_with frame.bracket frame.row t)
+divided frames frame is_interval t Semicolon = semicolon frames frame t
+divided frames frame is_interval t RightParen = right_paren frames frame t
 divided frames frame false t BarToken = barred frames frame t
 divided frames frame is_interval t kind = refused
 
