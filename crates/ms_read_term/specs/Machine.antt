@@ -1,6 +1,6 @@
 -- How a term is read, word by word.
-use Rattle.std.specs.Prelude.{ℕ, zero, suc, ◌==◌, ◌^◌, nat_le, nat_lt, pos, neg_ℤ, if◌then◌else◌, Bool, true, false, List, [], ◌∷◌, Option, Some, None}
-use Rattle.std.specs.Option.{option_and_then, is_some}
+use Rattle.std.specs.Prelude.{ℕ, zero, suc, ◌-◌, ◌==◌, ◌^◌, nat_le, nat_lt, pos, neg_ℤ, if◌then◌else◌, Bool, true, false, List, [], ◌∷◌, length, Option, Some, None}
+use Rattle.std.specs.Option.{option_map, is_some}
 use Rattle.ms_text.specs.declared.token.TokenKind.{TokenKind}
 use Rattle.ms_text.specs.declared.token.TokenKind.TheVariants.{Name, Number as NumberToken, Text as TextToken, Dot, DotDot, Comma, Semicolon, LeftParen, RightParen, Plus as PlusToken, Minus as MinusToken, Star, Slash, Backslash, Bar as BarToken}
 use Rattle.ms_grammar.specs.declared.term.TextTerm.{Number, Text, Function, Abs}
@@ -192,3 +192,7 @@ carried on stop none refused = none
 abbrev pub run : Reader → List Word → Option (Part × List Word)
 run r [] = carried (λ s. None) (λ p. Some (p, [])) None (step r (sign Dot))
 run r (w ∷ ws) = carried (λ s. run s ws) (λ p. Some (p, w ∷ ws)) None (step r w)
+
+-- The term at the front of the words, with the number of its words.
+abbrev pub read_of : List Word → Option (Part × ℕ)
+read_of ws = option_map (λ f. (f.0, length ws - length f.1)) (run at_start ws)

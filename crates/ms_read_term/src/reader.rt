@@ -358,10 +358,10 @@ impl Reader {
         let Some(outside) = frame.into_outside_of_bar() else {
             return Ok(Turn::Refused);
         };
+        self.level = outside;
         let Some(part) = absolute(alloc, term)? else {
             return Ok(Turn::Refused);
         };
-        self.level = outside;
         self.land(alloc, self.level.minuses, part)
     }
 }
