@@ -128,7 +128,7 @@ product_read op kind frames low sum lefts rights rest pl pr p goes l r j = recor
   runs =
       ap (λ ws. run (wanted frames (level low sum None 0)) ws) (append_assoc lefts (sign kind ∷ rights) rest)
       ∙ l.runs
-      ∙ run_step (at frames (level low sum l.product_left 0) l.part) (sign kind) (rights ++ rest) _ (goes _ _ ∙ made_some _ _ pl l.closes)
+      ∙ run_step (at frames (level low sum l.product_left 0) l.part) (sign kind) (rights ++ rest) _ (goes (level low sum l.product_left 0) l.part ∙ made_some (λ q. next (wanted frames (level low sum (Some (record { part = q; sign = op })) 0))) (closed_product (level low sum l.product_left 0) l.part) pl l.closes)
       ∙ r;
   closes = j
 }
@@ -141,7 +141,7 @@ sum_read op kind frames low lefts rights rest pl pr p goes l r j = record {
   runs =
       ap (λ ws. run (wanted frames (level low None None 0)) ws) (append_assoc lefts (sign kind ∷ rights) rest)
       ∙ l.runs
-      ∙ run_step (at frames (level low l.sum_left l.product_left 0) l.part) (sign kind) (rights ++ rest) _ (goes _ _ ∙ made_some _ _ pl l.closes)
+      ∙ run_step (at frames (level low l.sum_left l.product_left 0) l.part) (sign kind) (rights ++ rest) _ (goes (level low l.sum_left l.product_left 0) l.part ∙ made_some (λ q. next (wanted frames (level low (Some (record { part = q; sign = op })) None 0))) (closed_sum (level low l.sum_left l.product_left 0) l.part) pl l.closes)
       ∙ r.runs;
   closes = ap (option_and_then (with_sum (Some (record { part = pl; sign = op })))) r.closes ∙ j
 }
@@ -241,7 +241,7 @@ mutual
       let r = read_sum x (frame (level low sum pr m) Bar None ∷ frames) None t.from (sign BarToken ∷ rest) t.from_is tt in
       ap (λ ws. run (wanted (frame (level low sum pr m) Bar None ∷ frames) no_level) ws) (append_assoc (sum_words x) (sign BarToken ∷ []) rest)
       ∙ r.runs
-      ∙ run_step _ (sign BarToken) rest _ (made_some _ _ t.from (ap (option_and_then (with_low None)) r.closes) ∙ made_some (landed frames (level low sum pr m) m) _ p t.made_is ∙ landed_at frames (level low sum pr m) m p q h)
+      ∙ run_step (at (frame (level low sum pr m) Bar None ∷ frames) (level None r.sum_left r.product_left 0) r.part) (sign BarToken) rest _ (made_some (ended_in (frame (level low sum pr m) Bar None ∷ frames) false BarToken) _ t.from (ap (option_and_then (with_low None)) r.closes) ∙ made_some (landed frames (level low sum pr m) m) _ p t.made_is ∙ landed_at frames (level low sum pr m) m p q h)
 
   read_product : (x : Product) (frames : List Frame) (low : Option Part) (sum : Option PendingSum) (p : Part) (rest : List Word) → product_part x ≡ Some p → Stays rest → ReadProduct frames low sum (product_words x) rest p
   read_product (unary u) frames low sum p rest e s = record { product_left = None; part = p; runs = read_unary u frames low sum None 0 p p rest e refl s; closes = refl }
@@ -296,11 +296,11 @@ mutual
 
   read_arguments : (x : Arguments) (frames : List Frame) (outside : Level) (f : List ℕ) (lists : Option Rows) (e : Divider) (row : Row) (rest : List Word) → arguments_row x ≡ Some row → run (wanted (frame outside (ArgumentsOf f lists) None ∷ frames) no_level) (arguments_words x ++ sign (kind_at e) ∷ rest) ≡ after (list_ended frames outside (kind_at e) (ArgumentsOf f (Some (with_row lists row)))) (sign (kind_at e)) rest
   read_arguments no_arguments frames outside f lists e row rest h =
-      run_step _ (sign (kind_at e)) rest _ (bare_list e frames (frame outside (ArgumentsOf f lists) None) _ (ap (λ r. Some (ArgumentsOf f (Some (with_row lists r)))) (some_injective _ _ h)))
+      run_step (wanted (frame outside (ArgumentsOf f lists) None ∷ frames) no_level) (sign (kind_at e)) rest _ (bare_list e frames (frame outside (ArgumentsOf f lists) None) _ (ap (λ r. Some (ArgumentsOf f (Some (with_row lists r)))) (some_injective _ _ h)))
   read_arguments (arguments ts) frames outside f lists e row rest h =
       let r = read_terms ts frames outside (ArgumentsOf f lists) row (sign (kind_at e) ∷ rest) tt h (divider_stays e) in
       r.runs
-      ∙ run_step _ (sign (kind_at e)) rest _ (ended_list e frames (frame outside (ArgumentsOf f lists) r.before) r.level_left r.part r.term _ r.closes (ap (λ x. Some (ArgumentsOf f (Some (with_row lists x)))) r.row_is))
+      ∙ run_step (at (frame outside (ArgumentsOf f lists) r.before ∷ frames) r.level_left r.part) (sign (kind_at e)) rest _ (ended_list e frames (frame outside (ArgumentsOf f lists) r.before) r.level_left r.part r.term _ r.closes (ap (λ x. Some (ArgumentsOf f (Some (with_row lists x)))) r.row_is))
 
   read_lists : (x : Lists) (frames : List Frame) (outside : Level) (f : List ℕ) (e : Divider) (rows : Rows) (rest : List Word) → lists_rows x ≡ Some rows → run (wanted (frame outside (ArgumentsOf f None) None ∷ frames) no_level) (lists_words x ++ sign (kind_at e) ∷ rest) ≡ after (list_ended frames outside (kind_at e) (ArgumentsOf f (Some rows))) (sign (kind_at e)) rest
   read_lists (one_list args) frames outside f e rows rest h =
@@ -316,19 +316,19 @@ mutual
 
   read_tuple : (x : Tuple) (frames : List Frame) (outside : Level) (alternatives : Option Row) (e : Divider) (p : Part) (rest : List Word) → tuple_part x ≡ Some p → run (wanted (frame outside (Parenthesis alternatives) None ∷ frames) no_level) (tuple_words x ++ sign (kind_at e) ∷ rest) ≡ after (list_ended frames outside (kind_at e) (Parenthesis (Some (with_alternative (alternatives_so_far alternatives) p)))) (sign (kind_at e)) rest
   read_tuple empty_tuple frames outside alternatives e p rest h =
-      run_step _ (sign (kind_at e)) rest _ (bare_list e frames (frame outside (Parenthesis alternatives) None) _ (ap (parenthesis_with alternatives) h))
+      run_step (wanted (frame outside (Parenthesis alternatives) None ∷ frames) no_level) (sign (kind_at e)) rest _ (bare_list e frames (frame outside (Parenthesis alternatives) None) _ (ap (parenthesis_with alternatives) h))
   read_tuple (tuple ts) frames outside alternatives e p rest h =
       let t = then_some (λ row. grouped row.terms row) (terms_row ts) p h in
       let r = read_terms ts frames outside (Parenthesis alternatives) t.from (sign (kind_at e) ∷ rest) tt t.from_is (divider_stays e) in
       r.runs
-      ∙ run_step _ (sign (kind_at e)) rest _ (ended_list e frames (frame outside (Parenthesis alternatives) r.before) r.level_left r.part r.term _ r.closes (ap (λ (x : Row). parenthesis_with alternatives (grouped x.terms x)) r.row_is ∙ ap (parenthesis_with alternatives) t.made_is))
+      ∙ run_step (at (frame outside (Parenthesis alternatives) r.before ∷ frames) r.level_left r.part) (sign (kind_at e)) rest _ (ended_list e frames (frame outside (Parenthesis alternatives) r.before) r.level_left r.part r.term _ r.closes (ap (λ (x : Row). parenthesis_with alternatives (grouped x.terms x)) r.row_is ∙ ap (parenthesis_with alternatives) t.made_is))
   read_tuple (tuple_comma ts) frames outside alternatives e p rest h =
       let t = then_some tuple_of (terms_row ts) p h in
       let r = read_terms ts frames outside (Parenthesis alternatives) t.from (sign Comma ∷ sign (kind_at e) ∷ rest) tt t.from_is tt in
       ap (λ ws. run (wanted (frame outside (Parenthesis alternatives) None ∷ frames) no_level) ws) (append_assoc (terms_words ts) (sign Comma ∷ []) (sign (kind_at e) ∷ rest))
       ∙ r.runs
       ∙ run_step (at (frame outside (Parenthesis alternatives) r.before ∷ frames) r.level_left r.part) (sign Comma) (sign (kind_at e) ∷ rest) _ (comma_behind frames outside (Parenthesis alternatives) r.before r.level_left r.part r.term t.from tt r.closes r.row_is)
-      ∙ run_step _ (sign (kind_at e)) rest _ (bare_list e frames (frame outside (Parenthesis alternatives) (Some t.from)) _ (ap (parenthesis_with alternatives) t.made_is))
+      ∙ run_step (wanted (frame outside (Parenthesis alternatives) (Some t.from) ∷ frames) no_level) (sign (kind_at e)) rest _ (bare_list e frames (frame outside (Parenthesis alternatives) (Some t.from)) _ (ap (parenthesis_with alternatives) t.made_is))
 
   read_tuples : (x : Tuples) (frames : List Frame) (outside : Level) (e : Divider) (row : Row) (rest : List Word) → tuples_row x ≡ Some row → run (wanted (frame outside (Parenthesis None) None ∷ frames) no_level) (tuples_words x ++ sign (kind_at e) ∷ rest) ≡ after (list_ended frames outside (kind_at e) (Parenthesis (Some row))) (sign (kind_at e)) rest
   read_tuples (one_tuple t) frames outside e row rest h =

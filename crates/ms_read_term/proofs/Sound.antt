@@ -157,7 +157,7 @@ sum_sound whole rest frames l p op h =
       }
     })
 
-low_sound_in : (whole rest : List Word) (frames : List Frame) (l : Level) (p : Part) (b : Bool) → is_some l.low ≡ b → AtPart frames l p whole (sign DotDot ∷ rest) → Sound whole (sign DotDot ∷ rest) rest (low_pending_in b frames l p)
+low_sound_in : (whole rest : List Word) (frames : List Frame) (l : Level) (p : Part) (b : Bool) → is_some l.low ≡ b → AtPart frames l p whole (sign DotDot ∷ rest) → Sound whole (sign DotDot ∷ rest) rest (low_pending_in b frames (closed_sum l p))
 low_sound_in whole rest frames l p true e h = tt
 low_sound_in whole rest frames l p false low h =
     made_sound whole _ rest _ (closed_sum l p) (λ q e. record {
@@ -172,22 +172,22 @@ low_sound_in whole rest frames l p false low h =
 
 comma_sound : (whole rest : List Word) (frames : List Frame) (f : Frame) (t : Part) (a b : List Word) → FramesStand frames whole a → FrameStands f a b → SpellsTerm t b (sign Comma ∷ rest) → Sound whole (sign Comma ∷ rest) rest (comma frames f t)
 comma_sound whole rest frames f t a b stand h s =
-    made_sound whole _ rest _ (frame_with f t) (λ g e. reopened_sound whole _ rest frames g a stand (frame_grows f g t a b rest h s e))
+    made_sound whole (sign Comma ∷ rest) rest _ (frame_with f t) (λ g e. reopened_sound whole (sign Comma ∷ rest) rest frames g a stand (frame_grows f g t a b rest h s e))
 
 semicolon_sound : (whole rest : List Word) (frames : List Frame) (f : Frame) (t : Part) (a b : List Word) → FramesStand frames whole a → FrameStands f a b → SpellsTerm t b (sign Semicolon ∷ rest) → Sound whole (sign Semicolon ∷ rest) rest (semicolon frames f t)
 semicolon_sound whole rest frames f t a b stand h s =
-    made_sound whole _ rest _ (ended_with f.bracket f.row t) (λ x e. semicolon_ended whole _ rest frames f.outside x a h.bracket_from stand h.before (ends_with f.bracket x f.row t h.bracket_from b _ h.bracket_stands s e))
+    made_sound whole (sign Semicolon ∷ rest) rest _ (ended_with f.bracket f.row t) (λ x e. semicolon_ended whole (sign Semicolon ∷ rest) rest frames f.outside x a h.bracket_from stand h.before (ends_with f.bracket x f.row t h.bracket_from b (sign Semicolon ∷ rest) h.bracket_stands s e))
 
 paren_sound : (whole rest : List Word) (frames : List Frame) (f : Frame) (t : Part) (a b : List Word) → FramesStand frames whole a → FrameStands f a b → SpellsTerm t b (sign RightParen ∷ rest) → Sound whole (sign RightParen ∷ rest) rest (right_paren frames f t)
 paren_sound whole rest frames f t a b stand h s =
-    made_sound whole _ rest _ (ended_with f.bracket f.row t) (λ x e. paren_ended whole _ rest frames f.outside x a h.bracket_from stand h.before (ends_with f.bracket x f.row t h.bracket_from b _ h.bracket_stands s e))
+    made_sound whole (sign RightParen ∷ rest) rest _ (ended_with f.bracket f.row t) (λ x e. paren_ended whole (sign RightParen ∷ rest) rest frames f.outside x a h.bracket_from stand h.before (ends_with f.bracket x f.row t h.bracket_from b (sign RightParen ∷ rest) h.bracket_stands s e))
 
 bar_sound : (whole rest : List Word) (frames : List Frame) (f : Frame) (t : Part) (a b : List Word) → FramesStand frames whole a → FrameStands f a b → SpellsSum t b (sign BarToken ∷ rest) → Sound whole (sign BarToken ∷ rest) rest (barred frames f t)
 bar_sound whole rest frames f t a b stand h s =
-    made_sound whole _ rest _ (outside_of_bar f) (λ l e. made_sound whole _ rest _ (round Abs t) (λ q r.
+    made_sound whole (sign BarToken ∷ rest) rest _ (outside_of_bar f) (λ l e. made_sound whole (sign BarToken ∷ rest) rest _ (round Abs t) (λ q r.
       let bar = bar_stands f.bracket f.outside l f.row h.bracket_from b h.bracket_stands e in
       let before = subst (λ x. Before x a h.bracket_from) bar.1 h.before in
-      landed_sound whole _ rest frames l l.minuses q a before.pending_to h.bracket_from stand before.pending before.minuses (unary_of_primary q h.bracket_from rest (absolute_spelled t q h.bracket_from b rest bar.0 s r))))
+      landed_sound whole (sign BarToken ∷ rest) rest frames l l.minuses q a before.pending_to h.bracket_from stand before.pending before.minuses (unary_of_primary q h.bracket_from rest (absolute_spelled t q h.bracket_from b rest bar.0 s r))))
 
 divided_sound : (whole rest : List Word) (frames : List Frame) (f : Frame) (is_interval : Bool) (t : Part) (w : Word) (a b : List Word) → FramesStand frames whole a → FrameStands f a b → SpellsTerm t b (w ∷ rest) → (is_interval ≡ false → SpellsSum t b (w ∷ rest)) → Sound whole (w ∷ rest) rest (divided frames f is_interval t (kind_of w))
 divided_sound whole rest frames f is_interval t (sign Comma) a b stand h s r = comma_sound whole rest frames f t a b stand h s

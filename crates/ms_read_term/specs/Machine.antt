@@ -1,6 +1,6 @@
 -- How a term is read, word by word.
 use Rattle.std.specs.Prelude.{ℕ, zero, suc, ◌-◌, ◌==◌, ◌^◌, nat_le, nat_lt, pos, neg_ℤ, if◌then◌else◌, Bool, true, false, List, [], ◌∷◌, length, Option, Some, None}
-use Rattle.std.specs.Option.{option_map, is_some}
+use Rattle.std.specs.Option.{is_some}
 use Rattle.ms_text.specs.declared.token.TokenKind.{TokenKind}
 use Rattle.ms_text.specs.declared.token.TokenKind.TheVariants.{Name, Number as NumberToken, Text as TextToken, Dot, DotDot, Comma, Semicolon, LeftParen, RightParen, Plus as PlusToken, Minus as MinusToken, Star, Slash, Backslash, Bar as BarToken}
 use Rattle.ms_grammar.specs.declared.term.TextTerm.{Number, Text, Function, Abs}
@@ -112,13 +112,13 @@ product_pending frames level p op = made (λ q. next (wanted frames (record leve
 abbrev pub sum_pending : List Frame → Level → Part → SumSign → Outcome
 sum_pending frames level p op = made (λ q. next (wanted frames (record level { sum = Some (record { part = q; sign = op }); product = None; minuses = 0 }))) (closed_sum level p)
 
--- behind the sign of an interval
-abbrev pub low_pending_in : Bool → List Frame → Level → Part → Outcome
-low_pending_in true frames level p = refused
-low_pending_in false frames level p = made (λ q. next (wanted frames (record { low = Some q; sum = None; product = None; minuses = 0 }))) (closed_sum level p)
+-- behind the sign of an interval, which has one low end
+abbrev pub low_pending_in : Bool → List Frame → Option Part → Outcome
+low_pending_in true frames low = refused
+low_pending_in false frames low = made (λ q. next (wanted frames (record { low = Some q; sum = None; product = None; minuses = 0 }))) low
 
 abbrev pub low_pending : List Frame → Level → Part → Outcome
-low_pending frames level p = low_pending_in (is_some level.low) frames level p
+low_pending frames level p = low_pending_in (is_some level.low) frames (closed_sum level p)
 
 -- behind a `,` behind a term in a bracket
 abbrev pub comma : List Frame → Frame → Part → Outcome
@@ -193,6 +193,11 @@ abbrev pub run : Reader → List Word → Option (Part × List Word)
 run r [] = carried (λ s. None) (λ p. Some (p, [])) None (step r (sign Dot))
 run r (w ∷ ws) = carried (λ s. run s ws) (λ p. Some (p, w ∷ ws)) None (step r w)
 
--- The term at the front of the words, with the number of its words.
+-- what is found of the words, with the number of its words
+abbrev pub numbered : List Word → Option (Part × List Word) → Option (Part × ℕ)
+numbered ws None = None
+numbered ws (Some (p, rest)) = Some (p, length ws - length rest)
+
+-- the term at the front of the words
 abbrev pub read_of : List Word → Option (Part × ℕ)
-read_of ws = option_map (λ f. (f.0, length ws - length f.1)) (run at_start ws)
+read_of ws = numbered ws (run at_start ws)

@@ -1,13 +1,12 @@
 // Reads a term of a text, with a stack of the brackets that are open.
 #![tactic(auto)]
 
-ghost use Rattle.std.specs.Prelude.{◌≡◌, length, IfOk};
+ghost use Rattle.std.specs.Prelude.{length, IfOk};
 ghost use Rattle.ms_text.specs.Tokens.{LieWithin};
 ghost use Rattle.ms_grammar.specs.declared.part.Part.{Part};
 ghost use Rattle.ms_grammar.specs.Words.{words_of};
 ghost use Rattle.ms_grammar.specs.Terms.{Term, term_words, term_part};
 ghost use Rattle.ms_grammar.specs.Reading.{EndsTerm, IsRead};
-ghost use Rattle.ms_read_term.specs.Machine.{read_of};
 
 mod level;
 mod make;
@@ -20,8 +19,8 @@ mod string;
 
 pub use ms_base::memory::OutOfMemory;
 use ms_grammar::part::Part;
-use crate::reader::{Reader, Turn};
-use ms_text::token::{Token, TokenKind};
+use crate::reader::Reader;
+use ms_text::token::Token;
 use std::alloc::Global;
 
 /// The term at the front of the tokens, with the number of its tokens, exactly where a front spells one and
@@ -35,36 +34,8 @@ pub fn read_term(
     requires { LieWithin (length text.now) tokens.now }
     ensures { IfOk result (IsRead Term Part term_words term_part EndsTerm (words_of text.now tokens.now)) }
 {
-    read(alloc, text, tokens)
-}
-
-/// The end of the tokens is read like a dot, which ends any term.
-const END: Token = Token {
-    kind: TokenKind::Dot,
-    start: 0,
-    end: 0,
-    line: 0,
-};
-
-// Reads the tokens one by one, up to the first that is none of the term.
-fn read(
-    alloc: Global,
-    text: &[u8],
-    tokens: &[Token],
-) -> Result<Option<(Part, usize)>, OutOfMemory>
-    requires { LieWithin (length text.now) tokens.now }
-    ensures { IfOk result (λ found. found ≡ read_of (words_of text.now tokens.now)) }
-{
     let mut reader = Reader::new(alloc);
-    for (place, token) in tokens.iter().enumerate() {
-        match reader.read(alloc, text, *token)? {
-            Turn::Next => {}
-            Turn::Found(term) => return Ok(Some((term, place))),
-            Turn::Refused => return Ok(None),
-        }
-    }
-    match reader.read(alloc, text, END)? {
-        Turn::Found(term) => Ok(Some((term, tokens.len()))),
-        Turn::Next | Turn::Refused => Ok(None),
-    }
+    let found = reader.find(alloc, text, tokens);
+    drop(reader);
+    found
 }

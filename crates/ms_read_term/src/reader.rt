@@ -1,8 +1,8 @@
 // A term as far as it was read.
 ghost use Rattle.std.specs.Prelude.{◌≡◌, ◌≤◌, length, IfOk, Some};
 ghost use Rattle.ms_text.specs.declared.token.TokenKind.{TokenKind};
-ghost use Rattle.ms_text.specs.Tokens.{number_of};
-ghost use Rattle.ms_grammar.specs.Words.{word_of};
+ghost use Rattle.ms_text.specs.Tokens.{LieWithin, number_of};
+ghost use Rattle.ms_grammar.specs.Words.{word_of, words_of};
 ghost use Rattle.ms_grammar.specs.Terms.{leaf};
 
 use crate::bracket::{Bracket, Frame};
@@ -24,6 +24,14 @@ const GREATEST: u64 = 9223372036854775807;
 
 /// More minuses in a row than any term is high.
 const MOST_MINUSES: u8 = 201;
+
+/// The end of the tokens is read like a dot, which ends any term.
+const END: Token = Token {
+    kind: TokenKind::Dot,
+    start: 0,
+    end: 0,
+    line: 0,
+};
 
 /// Where the reader stands.
 #[derive(Drop)]
@@ -56,7 +64,7 @@ pub(crate) struct Reader {
 }
 
 impl Reader {
-    ghost use Rattle.ms_read_term.specs.Machine.{at_start, outcome, step, opened, landed, reopened, semicolon, right_paren, begun, number_begun, minus_begun, bare, behind_name, behind, product_pending, sum_pending, low_pending, ended, divided, comma, closed, barred};
+    ghost use Rattle.ms_read_term.specs.Machine.{at_start, outcome, step, numbered, run, opened, landed, reopened, semicolon, right_paren, begun, number_begun, minus_begun, bare, behind_name, behind, product_pending, sum_pending, low_pending, ended, divided, comma, closed, barred};
 
     /// Before the first token.
     pub fn new(alloc: Global) -> Self
@@ -69,8 +77,32 @@ impl Reader {
         }
     }
 
-    /// Reads one more token of the text.
-    pub fn read(&mut self, alloc: Global, text: &[u8], token: Token) -> Result<Turn, OutOfMemory>
+    /// Reads the tokens one by one, up to the first that is none of the term. Gives the term with the number
+    /// of its tokens.
+    pub fn find(
+        &mut self,
+        alloc: Global,
+        text: &[u8],
+        tokens: &[Token],
+    ) -> Result<Option<(Part, usize)>, OutOfMemory>
+        requires { LieWithin (length text.now) tokens.now }
+        ensures { IfOk result (λ found. found ≡ numbered (words_of text.now tokens.now) (run self.old (words_of text.now tokens.now))) }
+    {
+        for (place, token) in tokens.iter().enumerate() {
+            match self.read(alloc, text, *token)? {
+                Turn::Next => {}
+                Turn::Found(term) => return Ok(Some((term, place))),
+                Turn::Refused => return Ok(None),
+            }
+        }
+        match self.read(alloc, text, END)? {
+            Turn::Found(term) => Ok(Some((term, tokens.len()))),
+            Turn::Next | Turn::Refused => Ok(None),
+        }
+    }
+
+    // Reads one more token of the text.
+    fn read(&mut self, alloc: Global, text: &[u8], token: Token) -> Result<Turn, OutOfMemory>
         requires ordered { token.start ≤ token.end }
         requires within { token.end ≤ length text.now }
         ensures { IfOk result (λ turn. outcome turn self.new ≡ step self.old (word_of text.now token)) }
