@@ -1,18 +1,17 @@
 -- The words of a derivation are read as the part that it spells.
-use Rattle.std.proofs.Common.{◌≡◌, ℕ, zero, suc, ◌+◌, ◌≤◌, ◌==◌, ◌<◌, ◌^◌, nat_le, nat_lt, pos, neg_ℤ, Bool, true, false, List, [], ◌∷◌, ◌++◌, Option, Some, None, refl, ap, sym, subst, ◌∙◌, append_assoc, arith, if◌then◌else◌}
+use Rattle.std.proofs.Common.{◌≡◌, ℕ, suc, ◌+◌, ◌≤◌, ◌==◌, ◌<◌, ◌^◌, nat_le, nat_lt, pos, neg_ℤ, true, false, List, [], ◌∷◌, ◌++◌, Option, Some, None, refl, ap, subst, ◌∙◌, append_assoc, arith, if◌then◌else◌}
 use Rattle.std.specs.Prelude.{⊤}
 use Rattle.std.proofs.lemmas.Bool.{lt-ltb}
-use Rattle.std.specs.Option.{option_map, option_and_then, is_some}
+use Rattle.std.specs.Option.{option_and_then}
 use Rattle.ms_tree.specs.declared.op.Op.TheVariants.{Add, Sub, Mul, Div, Rem}
 use Rattle.ms_text.specs.declared.token.TokenKind.{TokenKind}
 use Rattle.ms_text.specs.declared.token.TokenKind.TheVariants.{Dot, DotDot, Comma, Semicolon, LeftParen, RightParen, Plus as PlusToken, Minus as MinusToken, Star, Slash, Backslash, Bar as BarToken}
-use Rattle.ms_grammar.specs.declared.term.TextTerm.{TextTerm, Number, Text, Function, Interval, Neg, Abs, Binary}
+use Rattle.ms_grammar.specs.declared.term.TextTerm.{Number, Function, Interval, Neg, Abs, Binary}
 use Rattle.ms_grammar.specs.declared.part.Part.{Part}
 use Rattle.ms_grammar.specs.declared.part.Row.{Row}
 use Rattle.ms_grammar.specs.declared.part.Rows.{Rows}
 use Rattle.ms_grammar.specs.Words.{Word, name, number, quoted, sign}
-use Rattle.ms_grammar.specs.Terms
-use Rattle.ms_grammar.specs.Terms.{Term, Sum, Product, Unary, Primary, Lists, Arguments, Terms as TermRow, Tuples, Tuple, single, interval, product, plus, minus, unary, times, over, modulo, primary, negative, least, numeral, string, constant, function, parenthesis, absolute, one_list, or_list, no_arguments, arguments, one_term, and_term, one_tuple, or_tuple, empty_tuple, tuple, tuple_comma, term_words, sum_words, product_words, unary_words, primary_words, lists_words, arguments_words, terms_words, tuples_words, tuple_words, term_part, sum_part, product_part, unary_part, primary_part, lists_rows, arguments_row, terms_row, tuples_row, tuple_part, leaf, round, joined, with_term, no_terms, only_list, with_list, named, tuple_of, grouped, pooled, with_alternative, no_alternative, both, greatest_numeral}
+use Rattle.ms_grammar.specs.Terms.{Term, Sum, Product, Unary, Primary, Lists, Arguments, Terms as TermRow, Tuples, Tuple, single, interval, product, plus, minus, unary, times, over, modulo, primary, negative, least, numeral, string, constant, function, parenthesis, absolute, one_list, or_list, no_arguments, arguments, one_term, and_term, one_tuple, or_tuple, empty_tuple, tuple, tuple_comma, term_words, sum_words, product_words, unary_words, primary_words, lists_words, arguments_words, terms_words, tuples_words, tuple_words, term_part, sum_part, product_part, unary_part, primary_part, lists_rows, arguments_row, terms_row, tuples_row, tuple_part, leaf, round, joined, with_term, no_terms, only_list, with_list, named, tuple_of, grouped, pooled, with_alternative, no_alternative, greatest_numeral}
 use Rattle.ms_grammar.specs.Reading.{EndsTerm, carries_on}
 use Rattle.ms_read_term.specs.declared.level.SumSign.{SumSign}
 use Rattle.ms_read_term.specs.declared.level.SumSign.TheVariants.{Plus, Minus}
@@ -24,11 +23,10 @@ use Rattle.ms_read_term.specs.declared.level.Level.{Level}
 use Rattle.ms_read_term.specs.declared.bracket.Bracket.{Bracket}
 use Rattle.ms_read_term.specs.declared.bracket.Bracket.TheVariants.{Arguments as ArgumentsOf, Parenthesis, Bar}
 use Rattle.ms_read_term.specs.declared.bracket.Frame.{Frame}
-use Rattle.ms_read_term.specs.declared.reader.Reader.{Reader}
 use Rattle.ms_read_term.specs.Closing.{negated, no_level, op_of_sum, op_of_product, with_product, with_sum, with_low, closed_product, closed_sum, closed_term}
 use Rattle.ms_read_term.specs.Brackets.{row_so_far, with_row, alternatives_so_far, parenthesis_with, ended_with, ended_bare, frame_with_in}
-use Rattle.ms_read_term.specs.Machine.{Outcome, next, found, refused, made, wanted, at_start, opened, landed, closed, list_ended, reopened, ended, ended_in, behind, behind_name, begun, minus_begun, number_begun, least_begun, product_pending, sum_pending, step, carried, run, kind_of, most_minuses}
-use Rattle.ms_read_term.proofs.Running.{Both, both_some, Then, then_some, Mapped, map_some, if_some, some_injective, made_some, height_of_round, after, run_step, level, at, at_name, stays, Stays, negated_height}
+use Rattle.ms_read_term.specs.Machine.{next, refused, wanted, at_start, landed, list_ended, reopened, ended, ended_in, behind, behind_name, begun, least_begun, product_pending, sum_pending, carried, run, kind_of, most_minuses}
+use Rattle.ms_read_term.proofs.Running.{both_some, then_some, map_some, if_some, some_injective, made_some, height_of_round, after, run_step, level, at, at_name, stays, Stays, negated_height}
 
 -- what ends a list
 data Divider : Type 0 where

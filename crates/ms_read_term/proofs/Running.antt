@@ -1,5 +1,5 @@
 -- One step of a run, and what is made on the way.
-use Rattle.std.proofs.Common.{◌≡◌, ℕ, suc, ◌+◌, ◌≤◌, nat_le, zero, pos, Bool, true, false, List, [], ◌∷◌, Option, Some, None, refl, ap, sym, ◌∙◌, arith, if◌then◌else◌}
+use Rattle.std.proofs.Common.{◌≡◌, ℕ, suc, ◌+◌, ◌≤◌, nat_le, zero, Bool, true, false, List, [], ◌∷◌, Option, Some, None, refl, ap, sym, arith, if◌then◌else◌}
 use Rattle.std.specs.Prelude.{⊤}
 use Rattle.std.proofs.lemmas.Bool.{leb-true}
 use Rattle.std.specs.Option.{option_map, option_and_then}
@@ -8,7 +8,7 @@ use Rattle.ms_text.specs.declared.token.TokenKind.TheVariants.{LeftParen}
 use Rattle.ms_grammar.specs.declared.term.TextTerm.{Neg}
 use Rattle.ms_grammar.specs.declared.part.Part.{Part}
 use Rattle.ms_grammar.specs.Words.{Word}
-use Rattle.ms_grammar.specs.Terms.{both, round, fitting}
+use Rattle.ms_grammar.specs.Terms.{both, round}
 use Rattle.ms_read_term.specs.declared.level.PendingSum.{PendingSum}
 use Rattle.ms_read_term.specs.declared.level.PendingProduct.{PendingProduct}
 use Rattle.ms_read_term.specs.declared.level.Level.{Level}
@@ -16,7 +16,7 @@ use Rattle.ms_read_term.specs.declared.bracket.Frame.{Frame}
 use Rattle.ms_read_term.specs.declared.reader.Place.TheVariants.{Named, Behind}
 use Rattle.ms_read_term.specs.declared.reader.Reader.{Reader}
 use Rattle.ms_read_term.specs.Closing.{negated}
-use Rattle.ms_read_term.specs.Machine.{Outcome, next, made, landed, step, carried, run, kind_of}
+use Rattle.ms_read_term.specs.Machine.{Outcome, made, step, carried, run, kind_of}
 
 -- Two things are there, and this is made of them.
 pub record Both {A B C : Type 0} (f : A → B → Option C) (a : Option A) (b : Option B) (c : C) : Type 0 where

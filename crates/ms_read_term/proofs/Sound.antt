@@ -1,11 +1,11 @@
 -- Each step keeps that the words that were read are spelled by what is pending, so that what is found is spelled.
-use Rattle.std.proofs.Common.{◌≡◌, ℕ, zero, suc, ◌^◌, ◌==◌, nat_le, nat_lt, pos, neg_ℤ, Bool, true, false, List, [], ◌∷◌, ◌++◌, Option, Some, None, refl, ap, sym, ◌∙◌, subst, IfSome, if◌then◌else◌}
+use Rattle.std.proofs.Common.{◌≡◌, ℕ, zero, suc, ◌^◌, ◌==◌, nat_le, nat_lt, Bool, true, false, List, [], ◌∷◌, Option, Some, None, refl, sym, ◌∙◌, subst, IfSome, if◌then◌else◌}
 use Rattle.std.specs.Prelude.{⊤}
 use Rattle.std.specs.Option.{is_some}
 use Rattle.std.proofs.lemmas.Bool.{eqb-true}
 use Rattle.ms_text.specs.declared.token.TokenKind.{TokenKind}
 use Rattle.ms_text.specs.declared.token.TokenKind.TheVariants.{Dot, DotDot, Comma, Semicolon, LeftParen, RightParen, Plus as PlusToken, Minus as MinusToken, Star, Slash, Backslash, Bar as BarToken}
-use Rattle.ms_grammar.specs.declared.term.TextTerm.{Number, Text, Function, Abs}
+use Rattle.ms_grammar.specs.declared.term.TextTerm.{Function, Abs}
 use Rattle.ms_grammar.specs.declared.part.Part.{Part}
 use Rattle.ms_grammar.specs.Words.{Word, name, number, quoted, sign}
 use Rattle.ms_grammar.specs.Terms.{leaf, round, greatest_numeral}
@@ -20,11 +20,11 @@ use Rattle.ms_read_term.specs.declared.bracket.Frame.{Frame}
 use Rattle.ms_read_term.specs.declared.reader.Place.{Place}
 use Rattle.ms_read_term.specs.declared.reader.Place.TheVariants.{Wanted, Named, Behind}
 use Rattle.ms_read_term.specs.declared.reader.Reader.{Reader}
-use Rattle.ms_read_term.specs.Closing.{negated, no_level, is_bare, closed_product, closed_sum, closed_term}
+use Rattle.ms_read_term.specs.Closing.{negated, is_bare, closed_product, closed_sum, closed_term}
 use Rattle.ms_read_term.specs.Brackets.{ended_with, ended_bare, bracket_part, new_frame, frame_with, outside_of_bar}
-use Rattle.ms_read_term.specs.Machine.{Outcome, next, found, refused, made, wanted, at_start, reopened, opened, landed, closed, list_ended, bare_in, bare, least_begun, number_begun, minus_begun, most_minuses, begun, product_pending, sum_pending, low_pending_in, low_pending, comma, semicolon, right_paren, barred, divided, ended_in, ended, behind, behind_name, kind_of, step_at, step, carried, run}
-use Rattle.ms_read_term.proofs.Spelled.{Spells, SpellsUnary, SpellsSum, SpellsTerm, Minuses, kind_of_product, kind_of_sum, minuses_spelled, unary_of_primary, absolute_spelled, number_spelled, least_spelled, string_spelled, constant_spelled}
-use Rattle.ms_read_term.proofs.Standing.{Pending, Before, nothing_before, product_closes, sum_closes, term_closes, sum_of_term, nothing_low, bare_level, FrameStands, Next, FramesStand, Ended, bracket_goes_on, bracket_closes, ends_with, ends_bare, frame_grows, bar_stands}
+use Rattle.ms_read_term.specs.Machine.{Outcome, next, found, refused, made, at_start, reopened, opened, landed, closed, bare_in, bare, least_begun, number_begun, most_minuses, begun, product_pending, sum_pending, low_pending_in, comma, semicolon, right_paren, barred, divided, ended_in, ended, behind, behind_name, kind_of, step_at, step, carried, run}
+use Rattle.ms_read_term.proofs.Spelled.{SpellsUnary, SpellsSum, SpellsTerm, Minuses, kind_of_product, kind_of_sum, minuses_spelled, unary_of_primary, absolute_spelled, number_spelled, least_spelled, string_spelled, constant_spelled}
+use Rattle.ms_read_term.proofs.Standing.{Pending, Before, nothing_before, product_closes, sum_closes, term_closes, sum_of_term, nothing_low, bare_level, FrameStands, FramesStand, Ended, bracket_goes_on, bracket_closes, ends_with, ends_bare, frame_grows, bar_stands}
 
 -- Where a part is to begin, what was read is spelled by what is pending.
 record AtWanted (frames : List Frame) (l : Level) (whole rest : List Word) : Type 0 where

@@ -4,12 +4,12 @@ use Rattle.std.specs.Option.{option_map, option_and_then}
 use Rattle.ms_tree.specs.declared.op.Op.TheVariants.{Add, Sub, Mul, Div, Rem}
 use Rattle.ms_text.specs.declared.token.TokenKind.{TokenKind}
 use Rattle.ms_text.specs.declared.token.TokenKind.TheVariants.{DotDot, Comma, Semicolon, LeftParen, RightParen, Plus as PlusToken, Minus as MinusToken, Star, Slash, Backslash, Bar as BarToken}
-use Rattle.ms_grammar.specs.declared.term.TextTerm.{TextTerm, Number, Text, Function, Interval, Neg, Abs, Binary}
+use Rattle.ms_grammar.specs.declared.term.TextTerm.{Number, Text, Function, Interval, Neg, Abs, Binary}
 use Rattle.ms_grammar.specs.declared.part.Part.{Part}
 use Rattle.ms_grammar.specs.declared.part.Row.{Row}
 use Rattle.ms_grammar.specs.declared.part.Rows.{Rows}
 use Rattle.ms_grammar.specs.Words.{Word, name, number, quoted, sign}
-use Rattle.ms_grammar.specs.Terms.{Term, Sum, Product, Unary, Primary, Lists, Arguments, Terms as TermRow, Tuples, Tuple, single, interval, product, plus, minus, unary, times, over, modulo, primary, negative, least, numeral, string, constant, function, parenthesis, absolute, one_list, or_list, no_arguments, arguments, one_term, and_term, one_tuple, or_tuple, empty_tuple, tuple, tuple_comma, term_words, sum_words, product_words, unary_words, primary_words, lists_words, arguments_words, terms_words, tuples_words, tuple_words, term_part, sum_part, product_part, unary_part, primary_part, lists_rows, arguments_row, terms_row, tuples_row, tuple_part, leaf, round, joined, with_term, no_terms, only_list, with_list, named, tuple_of, grouped, pooled, with_alternative, no_alternative, both, greatest_numeral}
+use Rattle.ms_grammar.specs.Terms.{single, interval, product, plus, minus, unary, times, over, modulo, primary, negative, least, numeral, string, constant, function, parenthesis, absolute, one_list, or_list, no_arguments, arguments, one_term, and_term, one_tuple, or_tuple, empty_tuple, tuple, tuple_comma, term_words, sum_words, product_words, unary_words, primary_words, lists_words, arguments_words, terms_words, tuples_words, tuple_words, term_part, sum_part, product_part, unary_part, primary_part, lists_rows, arguments_row, terms_row, tuples_row, tuple_part, leaf, round, joined, with_term, no_terms, only_list, with_list, named, tuple_of, grouped, pooled, with_alternative, no_alternative, both, greatest_numeral}
 use Rattle.ms_read_term.specs.declared.level.SumSign.{SumSign}
 use Rattle.ms_read_term.specs.declared.level.SumSign.TheVariants.{Plus, Minus}
 use Rattle.ms_read_term.specs.declared.level.ProductSign.{ProductSign}
@@ -18,7 +18,7 @@ use Rattle.ms_read_term.specs.declared.level.PendingSum.{PendingSum}
 use Rattle.ms_read_term.specs.declared.level.PendingProduct.{PendingProduct}
 use Rattle.ms_read_term.specs.Closing.{negated, op_of_sum, op_of_product, with_product, with_sum, with_low}
 use Rattle.ms_read_term.specs.Brackets.{row_so_far, with_row, alternatives_so_far}
-use Rattle.ms_read_term.proofs.Running.{then_some, some_injective}
+use Rattle.ms_read_term.proofs.Running.{then_some}
 
 -- A derivation shows that the words up to some rest spell a value.
 pub record Spells {D V : Type 0} (words : D → List Word) (spelled : D → Option V) (value : V) (from to : List Word) : Type 0 where

@@ -1,23 +1,22 @@
 -- What a reader's state says of the words that were read: they are spelled by what is pending.
-use Rattle.std.proofs.Common.{◌≡◌, ℕ, zero, suc, Bool, true, false, List, [], ◌∷◌, ◌++◌, Option, Some, None, refl, ap, sym, ◌∙◌, subst}
-use Rattle.std.specs.Prelude.{⊤}
-use Rattle.std.specs.Option.{option_and_then, option_map, is_some}
-use Rattle.ms_text.specs.declared.token.TokenKind.TheVariants.{DotDot, Comma, Semicolon, LeftParen, RightParen, Bar as BarToken}
+use Rattle.std.proofs.Common.{◌≡◌, ℕ, zero, true, false, List, [], ◌∷◌, Option, Some, None, refl, sym, ◌∙◌, subst}
+use Rattle.std.specs.Option.{option_and_then, is_some}
+use Rattle.ms_text.specs.declared.token.TokenKind.TheVariants.{Comma, Semicolon, LeftParen, RightParen, Bar as BarToken}
 use Rattle.ms_grammar.specs.declared.part.Part.{Part}
 use Rattle.ms_grammar.specs.declared.part.Row.{Row}
 use Rattle.ms_grammar.specs.declared.part.Rows.{Rows}
 use Rattle.ms_grammar.specs.Words.{Word, name, sign}
-use Rattle.ms_grammar.specs.Terms.{with_term, grouped, tuple_of, with_alternative}
+use Rattle.ms_grammar.specs.Terms.{with_term, grouped, tuple_of}
 use Rattle.ms_read_term.specs.declared.level.PendingSum.{PendingSum}
 use Rattle.ms_read_term.specs.declared.level.PendingProduct.{PendingProduct}
 use Rattle.ms_read_term.specs.declared.level.Level.{Level}
 use Rattle.ms_read_term.specs.declared.bracket.Bracket.{Bracket}
 use Rattle.ms_read_term.specs.declared.bracket.Bracket.TheVariants.{Arguments as ArgumentsOf, Parenthesis, Bar}
 use Rattle.ms_read_term.specs.declared.bracket.Frame.{Frame}
-use Rattle.ms_read_term.specs.Closing.{are_none, is_bare, no_level, with_product, with_sum, with_low, closed_product, closed_sum, closed_term}
-use Rattle.ms_read_term.specs.Brackets.{row_so_far, with_row, alternatives_so_far, parenthesis_with, ended_with, ended_bare, bracket_part, frame_with_in, outside_of_bar_in}
+use Rattle.ms_read_term.specs.Closing.{are_none, is_bare, no_level, with_sum, with_low, closed_product, closed_sum, closed_term}
+use Rattle.ms_read_term.specs.Brackets.{row_so_far, ended_with, ended_bare, bracket_part, frame_with_in, outside_of_bar_in}
 use Rattle.ms_read_term.proofs.Running.{then_some, map_some, some_injective}
-use Rattle.ms_read_term.proofs.Spelled.{Spells, SpellsPrimary, SpellsUnary, SpellsProduct, SpellsSum, SpellsTerm, SpellsTerms, SpellsLists, SpellsTuples, Minuses, LowStands, SumStands, ProductStands, RowStands, ListsStand, AlternativesStand, product_spelled, sum_spelled, term_spelled, row_grows, lists_grow, alternatives_grow, arguments_of_terms, arguments_of_none, tuple_of_terms, tuple_of_row, function_spelled, parenthesis_spelled}
+use Rattle.ms_read_term.proofs.Spelled.{SpellsPrimary, SpellsUnary, SpellsProduct, SpellsSum, SpellsTerm, SpellsLists, SpellsTuples, Minuses, LowStands, SumStands, ProductStands, RowStands, ListsStand, AlternativesStand, product_spelled, sum_spelled, term_spelled, row_grows, lists_grow, alternatives_grow, arguments_of_terms, arguments_of_none, tuple_of_terms, tuple_of_row, function_spelled, parenthesis_spelled}
 
 -- What stands between two places is the pending operators.
 pub record Pending (low : Option Part) (sum : Option PendingSum) (product : Option PendingProduct) (from to : List Word) : Type 0 where

@@ -1,4 +1,3 @@
-use Rattle.std.proofs.Common.{◌==◌, ap, subst, arith}
 use Rattle.ms_read_term.proofs.Strings.{behind_more, slash_more, byte_more, at_end, other_byte}
 use Rattle.ms_read_term.proofs.string.unescape.Goals as goal
 use Rattle.ms_read_term.proofs.string.unescape.Goals.{then-behind+in_ok-push, else-behind+then-byte-eq92, else-behind+else-byte-eq92+in_ok-push-2}
