@@ -39,3 +39,6 @@ pub fn read_term(
     drop(reader);
     found
 }
+
+#[cfg(test)]
+mod tests;
