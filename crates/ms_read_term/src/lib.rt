@@ -19,6 +19,7 @@ mod string;
 
 pub use ms_base::memory::OutOfMemory;
 use ms_grammar::part::Part;
+use crate::reader::Reader;
 use ms_text::token::Token;
 use std::alloc::Global;
 
@@ -33,5 +34,11 @@ pub fn read_term(
     requires { LieWithin (length text.now) tokens.now }
     ensures { IfOk result (IsRead Term Part term_words term_part EndsTerm (words_of text.now tokens.now)) }
 {
-    Err(OutOfMemory)
+    let mut reader = Reader::new(alloc);
+    let found = reader.find(alloc, text, tokens);
+    drop(reader);
+    found
 }
+
+#[cfg(test)]
+mod tests;
