@@ -5,3 +5,4 @@ pub mod Leads
 pub mod Atoms
 pub mod Counts
 pub mod Rowed
+pub mod Literals

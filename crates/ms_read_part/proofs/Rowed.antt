@@ -78,7 +78,7 @@ module _ (D T : Type 0) (w : D → List Word) (s : D → Option (Counted T)) (be
   last-complete x mid none [] rest v part =
       let same = found-parts part.is in
       let nothing : alone [] ≡ part.more = some-parts part.spells in
-      rw (same.0, same.1, nothing, part.value) refl
+      ap (λ y. Some (cons y (alone []), mid)) same.0 ∙ ap (λ m. Some (cons part.first m, mid)) nothing ∙ ap (λ y. Some (y, mid)) part.value ∙ ap (λ r. Some (v, r)) same.1
   last-complete x mid none (e ∷ es) rest v part = let same = found-parts part.is in absurd (none (ap front_kind same.1))
 
   pub row_last : {ws mid : List Word} {x : Counted T} → Reads D (Counted T) w s E ws (Some (x, mid)) → front_kind mid ≢ Some between → IsRow D T w s between F ws (Some (cons x (alone []), mid))
