@@ -8,14 +8,8 @@ use Rattle.ms_grammar.specs.Statements.{alone, row_of}
 use Rattle.ms_read_part.specs.Kinds.{front_kind}
 use Rattle.ms_read_part.specs.Cuts.{IsCut, Reads}
 use Rattle.ms_read_part.specs.Pieces.{row_words, row_spelled}
-use Rattle.ms_read_part.proofs.Combined.{Reads-none, both-some, both-is, found-parts}
+use Rattle.ms_read_part.proofs.Combined.{Reads-none, both-some, both-is, some-parts, none-some, found-parts}
 use Rattle.ms_read_part.proofs.Counts.{cons, push, append, append-push, append-last, append-none}
-
-some-parts : {T : Type 0} {a b : T} → Some a ≡ Some b → a ≡ b
-some-parts e = cc
-
-none-some : {T : Type 0} {a : T} → None ≡ Some a → ⊥
-none-some e = cc
 
 abbrev pub prefixed : {T : Type 0} → Counted T → Option (Counted (List T) × List Word) → Option (Counted (List T) × List Word)
 prefixed x found = option_map (λ f. (cons x f.0, f.1)) found
