@@ -182,3 +182,38 @@ cmp_not_end ws rest cmp e same ends =
     let at : ends_at (front_kind ws) ≡ true = ap (λ x. ends_at (front_kind x)) same ∙ EndsPart-at rest ends in
     let not_at : ends_at (front_kind ws) ≡ false = ap ends_at k.1 ∙ cmp-ends k.0 cmp k.2 in
     (let false' : ⊥ = cc in false')
+
+-- what may follow elements and tuples may follow what is in them
+element-ends : (front : Option TokenKind) → ends_element front ≡ true → ends_at front ≡ true
+element-ends (Some Semicolon) h = refl
+element-ends (Some RightBrace) h = refl
+element-ends _ h = absurd (let false' : ⊥ = cc in false')
+
+element-tuple : (front : Option TokenKind) → ends_element front ≡ true → ends_tuple front ≡ true
+element-tuple (Some Semicolon) h = refl
+element-tuple (Some RightBrace) h = refl
+element-tuple _ h = absurd (let false' : ⊥ = cc in false')
+
+tuple-ends : (front : Option TokenKind) → ends_tuple front ≡ true → ends_at front ≡ true
+tuple-ends (Some Colon) h = refl
+tuple-ends (Some Semicolon) h = refl
+tuple-ends (Some RightBrace) h = refl
+tuple-ends _ h = absurd (let false' : ⊥ = cc in false')
+
+pub EndsElement-part : (ws : List Word) → EndsElement ws → EndsPart ws
+EndsElement-part ws h = EndsPart-from ws (element-ends (front_kind ws) h)
+
+pub EndsElement-tuple : (ws : List Word) → EndsElement ws → EndsTuple ws
+EndsElement-tuple ws h = element-tuple (front_kind ws) h
+
+pub EndsTuple-term : (ws : List Word) → EndsTuple ws → EndsTerm ws
+EndsTuple-term ws h = EndsPart-term ws (EndsPart-from ws (tuple-ends (front_kind ws) h))
+
+pub begins-element : (front : Option TokenKind) → begins_term front ≡ true → ends_element front ≡ false
+begins-element (Some Name) h = refl
+begins-element (Some Number) h = refl
+begins-element (Some Text) h = refl
+begins-element (Some LeftParen) h = refl
+begins-element (Some Bar) h = refl
+begins-element (Some Minus) h = refl
+begins-element _ h = absurd (let false' : ⊥ = cc in false')

@@ -6,3 +6,6 @@ pub mod Atoms
 pub mod Counts
 pub mod Rowed
 pub mod Literals
+pub mod Rows
+pub mod Conditions
+pub mod Elements

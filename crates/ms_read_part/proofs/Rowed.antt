@@ -28,11 +28,11 @@ pub record IsRow (D T : Type 0) (w : D → List Word) (s : D → Option (Counted
   pub reads : Reads (D × List D) (Counted (List T)) (row_words (sign between) w) (row_spelled s) F ws found
 
 -- what follows the first part of a row
-abbrev after_first : {D : Type 0} → (D → List Word) → TokenKind → List D → List Word → List Word
+abbrev pub after_first : {D : Type 0} → (D → List Word) → TokenKind → List D → List Word → List Word
 after_first w between [] rest = rest
 after_first w between (e ∷ es) rest = sign between ∷ (row_words (sign between) w (e, es) ++ rest)
 
-row-words : {D : Type 0} (w : D → List Word) (between : TokenKind) (d : D) (ds : List D) (rest : List Word) → row_words (sign between) w (d, ds) ++ rest ≡ w d ++ after_first w between ds rest
+pub row-words : {D : Type 0} (w : D → List Word) (between : TokenKind) (d : D) (ds : List D) (rest : List Word) → row_words (sign between) w (d, ds) ++ rest ≡ w d ++ after_first w between ds rest
 row-words w between d [] rest = refl
 row-words w between d (e ∷ es) rest = append_assoc (w d) (sign between ∷ row_words (sign between) w (e, es)) rest
 
