@@ -21,7 +21,7 @@ use Rattle.ms_read_part.proofs.Rowed.{after_first, row-words}
 use Rattle.ms_read_part.proofs.Conditions.{follows_conditions, follows_atom}
 
 -- two parts as one element
-joined-element : {A B C : Type 0} (g : A → B → C) (x : Option (Counted A)) (y : Option (Counted B)) → option_and_then (λ v. Some (as_element (beside g v.0 v.1))) (both (λ x y. Some (x, y)) x y) ≡ option_map as_element (join g x y)
+joined-element : {A B C : Type 0} (g : A → B → C) (x : Option (Counted A)) (y : Option (Counted B)) → option_and_then {T = Counted A × Counted B} (λ v. Some (as_element (beside g v.0 v.1))) (both (λ x y. Some (x, y)) x y) ≡ option_map as_element (join g x y)
 joined-element g None y = refl
 joined-element g (Some x) None = refl
 joined-element g (Some x) (Some y) = refl
