@@ -61,7 +61,7 @@ module _ (ws : List Word) (front : front_kind ws ≡ Some Colon) where
       → IfOk found (Reads Conditions (Counted (List TextLit)) conditions_words conditions_spelled EndsElement ws)
   conditions_row found no_end row =
       IfOk-more (Reads (Literal × List Literal) (Counted (List TextLit)) (row_words (sign Comma) literal_words) (row_spelled literal_spelled) EndsElement (drop 1 ws)) (Reads Conditions (Counted (List TextLit)) conditions_words conditions_spelled EndsElement ws) found
-        (λ f r. Reads-same row_to_conditions (conditions_to_row no_end) (Reads-sign Colon (front-sign Colon ws refl front) r)) row
+      (λ f r. Reads-same row_to_conditions (conditions_to_row no_end) (Reads-sign Colon (front-sign Colon ws refl front) r)) row
 
 -- conditions may follow an atom and a tuple
 pub follows_conditions : (c : Conditions) (v : Counted (List TextLit)) (rest : List Word) → conditions_spelled c ≡ Some v → EndsElement rest → EndsTuple (conditions_words c ++ rest)

@@ -35,17 +35,17 @@ set_element_from v = Some (as_element (beside set_from v.0 v.1))
 pub set_element_none : {ws : List Word} → Reads Atom (Counted TextTerm) atom_words atom_spelled EndsTerm ws None → Reads SetPart (Counted SetElement) set_part_words set_part_spelled EndsElement ws None
 set_element_none read =
     Reads-same
-      (λ d v e. record { derivation = record { atom = d.0; conditions = d.1 }; words_are = refl; spells = sym (joined-element set_from (atom_spelled d.0) (conditions_spelled d.1)) ∙ e })
-      (λ p rest v words_are ends e. record { derivation = (p.atom, p.conditions); words_are = refl; spells = joined-element set_from (atom_spelled p.atom) (conditions_spelled p.conditions) ∙ e })
-      (Reads-mapped set_element_from (Reads-then-none Atom Conditions (Counted TextTerm) (Counted (List TextLit)) atom_words conditions_words atom_spelled conditions_spelled EndsTerm EndsElement follows_atom read))
+    (λ d v e. record { derivation = record { atom = d.0; conditions = d.1 }; words_are = refl; spells = sym (joined-element set_from (atom_spelled d.0) (conditions_spelled d.1)) ∙ e })
+    (λ p rest v words_are ends e. record { derivation = (p.atom, p.conditions); words_are = refl; spells = joined-element set_from (atom_spelled p.atom) (conditions_spelled p.conditions) ∙ e })
+    (Reads-mapped set_element_from (Reads-then-none Atom Conditions (Counted TextTerm) (Counted (List TextLit)) atom_words conditions_words atom_spelled conditions_spelled EndsTerm EndsElement follows_atom read))
 
 pub set_element_some : {ws mid : List Word} {atom : Counted TextTerm} {found : Option (Counted (List TextLit) × List Word)} → Reads Atom (Counted TextTerm) atom_words atom_spelled EndsTerm ws (Some (atom, mid))
     → Reads Conditions (Counted (List TextLit)) conditions_words conditions_spelled EndsElement mid found → Reads SetPart (Counted SetElement) set_part_words set_part_spelled EndsElement ws (mapped set_element_from (behind atom found))
 set_element_some read more =
     Reads-same
-      (λ d v e. record { derivation = record { atom = d.0; conditions = d.1 }; words_are = refl; spells = sym (joined-element set_from (atom_spelled d.0) (conditions_spelled d.1)) ∙ e })
-      (λ p rest v words_are ends e. record { derivation = (p.atom, p.conditions); words_are = refl; spells = joined-element set_from (atom_spelled p.atom) (conditions_spelled p.conditions) ∙ e })
-      (Reads-mapped set_element_from (Reads-then Atom Conditions (Counted TextTerm) (Counted (List TextLit)) atom_words conditions_words atom_spelled conditions_spelled EndsTerm EndsElement follows_atom read more))
+    (λ d v e. record { derivation = record { atom = d.0; conditions = d.1 }; words_are = refl; spells = sym (joined-element set_from (atom_spelled d.0) (conditions_spelled d.1)) ∙ e })
+    (λ p rest v words_are ends e. record { derivation = (p.atom, p.conditions); words_are = refl; spells = joined-element set_from (atom_spelled p.atom) (conditions_spelled p.conditions) ∙ e })
+    (Reads-mapped set_element_from (Reads-then Atom Conditions (Counted TextTerm) (Counted (List TextLit)) atom_words conditions_words atom_spelled conditions_spelled EndsTerm EndsElement follows_atom read more))
 
 abbrev tuple_from : List TextTerm → List TextLit → AggElement
 tuple_from tuple conds = record { tuple = tuple; conds = conds }
@@ -59,17 +59,17 @@ Tuple = Term × List Term
 pub tuple_element_none : {ws : List Word} → Reads (Term × List Term) (Counted (List TextTerm)) (row_words (sign Comma) term_words) (row_spelled term_spelled) EndsTuple ws None → Reads TuplePart (Counted AggElement) tuple_part_words tuple_part_spelled EndsElement ws None
 tuple_element_none read =
     Reads-same
-      (λ d v e. record { derivation = record { first = d.0.0; more = d.0.1; conditions = d.1 }; words_are = refl; spells = sym (joined-element tuple_from (row_spelled term_spelled d.0) (conditions_spelled d.1)) ∙ e })
-      (λ p rest v words_are ends e. record { derivation = ((p.first, p.more), p.conditions); words_are = refl; spells = joined-element tuple_from (row_spelled term_spelled (p.first, p.more)) (conditions_spelled p.conditions) ∙ e })
-      (Reads-mapped tuple_element_from (Reads-then-none Tuple Conditions (Counted (List TextTerm)) (Counted (List TextLit)) (row_words (sign Comma) term_words) conditions_words (row_spelled term_spelled) conditions_spelled EndsTuple EndsElement follows_conditions read))
+    (λ d v e. record { derivation = record { first = d.0.0; more = d.0.1; conditions = d.1 }; words_are = refl; spells = sym (joined-element tuple_from (row_spelled term_spelled d.0) (conditions_spelled d.1)) ∙ e })
+    (λ p rest v words_are ends e. record { derivation = ((p.first, p.more), p.conditions); words_are = refl; spells = joined-element tuple_from (row_spelled term_spelled (p.first, p.more)) (conditions_spelled p.conditions) ∙ e })
+    (Reads-mapped tuple_element_from (Reads-then-none Tuple Conditions (Counted (List TextTerm)) (Counted (List TextLit)) (row_words (sign Comma) term_words) conditions_words (row_spelled term_spelled) conditions_spelled EndsTuple EndsElement follows_conditions read))
 
 pub tuple_element_some : {ws mid : List Word} {tuple : Counted (List TextTerm)} {found : Option (Counted (List TextLit) × List Word)} → Reads (Term × List Term) (Counted (List TextTerm)) (row_words (sign Comma) term_words) (row_spelled term_spelled) EndsTuple ws (Some (tuple, mid))
     → Reads Conditions (Counted (List TextLit)) conditions_words conditions_spelled EndsElement mid found → Reads TuplePart (Counted AggElement) tuple_part_words tuple_part_spelled EndsElement ws (mapped tuple_element_from (behind tuple found))
 tuple_element_some read more =
     Reads-same
-      (λ d v e. record { derivation = record { first = d.0.0; more = d.0.1; conditions = d.1 }; words_are = refl; spells = sym (joined-element tuple_from (row_spelled term_spelled d.0) (conditions_spelled d.1)) ∙ e })
-      (λ p rest v words_are ends e. record { derivation = ((p.first, p.more), p.conditions); words_are = refl; spells = joined-element tuple_from (row_spelled term_spelled (p.first, p.more)) (conditions_spelled p.conditions) ∙ e })
-      (Reads-mapped tuple_element_from (Reads-then Tuple Conditions (Counted (List TextTerm)) (Counted (List TextLit)) (row_words (sign Comma) term_words) conditions_words (row_spelled term_spelled) conditions_spelled EndsTuple EndsElement follows_conditions read more))
+    (λ d v e. record { derivation = record { first = d.0.0; more = d.0.1; conditions = d.1 }; words_are = refl; spells = sym (joined-element tuple_from (row_spelled term_spelled d.0) (conditions_spelled d.1)) ∙ e })
+    (λ p rest v words_are ends e. record { derivation = ((p.first, p.more), p.conditions); words_are = refl; spells = joined-element tuple_from (row_spelled term_spelled (p.first, p.more)) (conditions_spelled p.conditions) ∙ e })
+    (Reads-mapped tuple_element_from (Reads-then Tuple Conditions (Counted (List TextTerm)) (Counted (List TextLit)) (row_words (sign Comma) term_words) conditions_words (row_spelled term_spelled) conditions_spelled EndsTuple EndsElement follows_conditions read more))
 
 -- no element begins with a brace
 abbrev NoBrace : (D : Type 0) → (D → List Word) → Type 0
@@ -89,7 +89,7 @@ term_no_brace t more ws is at =
 pub tuple_no_brace : NoBrace TuplePart tuple_part_words
 tuple_no_brace e more at =
     term_no_brace e.first (after_first term_words Comma e.more (conditions_words e.conditions ++ more)) _
-      (append_assoc (row_words (sign Comma) term_words (e.first, e.more)) (conditions_words e.conditions) more ∙ row-words term_words Comma e.first e.more (conditions_words e.conditions ++ more)) at
+    (append_assoc (row_words (sign Comma) term_words (e.first, e.more)) (conditions_words e.conditions) more ∙ row-words term_words Comma e.first e.more (conditions_words e.conditions ++ more)) at
 
 module _ (D T : Type 0) (w : D → List Word) (s : D → Option (Counted T)) (no_brace : (d : D) (more : List Word) → front_kind (w d ++ more) ≢ Some RightBrace) where
   elements-complete : (ws : List Word) → front_kind ws ≡ Some RightBrace → (ds : List D) (rest : List Word) (v : Counted (List T)) → ws ≡ separated (sign Semicolon) (map w ds) ++ rest → EndsElements rest → row_of s ds ≡ Some v
@@ -116,4 +116,4 @@ module _ (D T : Type 0) (w : D → List Word) (s : D → Option (Counted T)) (no
       → IfOk found (Reads (List D) (Counted (List T)) (λ ds. separated (sign Semicolon) (map w ds)) (row_of s) EndsElements ws)
   elements_row ws found front row =
       IfOk-more (Reads (D × List D) (Counted (List T)) (row_words (sign Semicolon) w) (row_spelled s) EndsElements ws) (Reads (List D) (Counted (List T)) (λ ds. separated (sign Semicolon) (map w ds)) (row_of s) EndsElements ws) found
-        (λ f r. Reads-same (λ d v e. record { derivation = d.0 ∷ d.1; words_are = refl; spells = e }) (elements_to_row ws front) r) row
+      (λ f r. Reads-same (λ d v e. record { derivation = d.0 ∷ d.1; words_are = refl; spells = e }) (elements_to_row ws front) r) row

@@ -9,3 +9,5 @@ pub mod Literals
 pub mod Rows
 pub mod Conditions
 pub mod Elements
+pub mod Groups
+pub mod Tails

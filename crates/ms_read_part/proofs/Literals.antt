@@ -163,7 +163,7 @@ pub literal_plain : (ws : List Word) (found : Result (Option (Counted TextLit ×
     → IfOk found (Reads Literal (Counted TextLit) literal_words literal_spelled EndsPart ws)
 literal_plain ws found front read =
     IfOk-more (Reads (Term × Option (TokenKind × Term)) (Counted TextLit) plain_literal_words plain_literal_spelled EndsPart ws) (Reads Literal (Counted TextLit) literal_words literal_spelled EndsPart ws) found
-      (λ f r. Reads-same plain_to_literal (literal_to_plain ws front) r) read
+    (λ f r. Reads-same plain_to_literal (literal_to_plain ws front) r) read
 
 -- with `not` in front
 no_test : (cmp : Cmp) (left right : Counted TextTerm) (x v : Counted TextLit) → tested cmp left right ≡ x → counted_map negated_literal x ≡ Some v → ⊥
