@@ -11,3 +11,5 @@ pub mod Conditions
 pub mod Elements
 pub mod Groups
 pub mod Tails
+pub mod Parts
+pub mod Bodies

@@ -152,7 +152,7 @@ not_atom a more ws front e =
     let name = ap front_kind e ∙ atom_front a more in
     (let false' : ⊥ = cc in false')
 
-literal_to_plain : (ws : List Word) → front_kind ws ≢ Some Not → (l : Literal) (rest : List Word) (v : Counted TextLit) → ws ≡ literal_words l ++ rest → EndsPart rest → literal_spelled l ≡ Some v
+pub literal_to_plain : (ws : List Word) → front_kind ws ≢ Some Not → (l : Literal) (rest : List Word) (v : Counted TextLit) → ws ≡ literal_words l ++ rest → EndsPart rest → literal_spelled l ≡ Some v
     → IsSpelled (Term × Option (TokenKind × Term)) (Counted TextLit) plain_literal_words plain_literal_spelled (literal_words l) v
 literal_to_plain ws front (positive a) rest v words_are ends e = positive_to_plain a v e
 literal_to_plain ws front (negated a) rest v words_are ends e = absurd (front (ap front_kind words_are))
@@ -191,14 +191,14 @@ negate (test l kind r) x v spells e =
 abbrev pub negation : Counted TextLit → Option (Counted TextLit)
 negation x = counted_map negated_literal x
 
-to_negated : (d : Term × Option (TokenKind × Term)) (v : Counted TextLit) → option_and_then negation (plain_literal_spelled d) ≡ Some v → IsSpelled Literal (Counted TextLit) literal_words literal_spelled (sign Not ∷ plain_literal_words d) v
+pub to_negated : (d : Term × Option (TokenKind × Term)) (v : Counted TextLit) → option_and_then negation (plain_literal_spelled d) ≡ Some v → IsSpelled Literal (Counted TextLit) literal_words literal_spelled (sign Not ∷ plain_literal_words d) v
 to_negated d v e =
     let x = and_then-some negation (plain_literal_spelled d) v e in
     let l = plain_to_literal d x.0 x.1 in
     let n = negate l.derivation x.0 v l.spells x.2 in
     record { derivation = n.derivation; words_are = n.words_are ∙ ap (λ ws. sign Not ∷ ws) l.words_are; spells = n.spells }
 
-from_negated : (ws : List Word) → front_kind ws ≡ Some Not → (l : Literal) (rest : List Word) (v : Counted TextLit) → ws ≡ literal_words l ++ rest → EndsPart rest → literal_spelled l ≡ Some v
+pub from_negated : (ws : List Word) → front_kind ws ≡ Some Not → (l : Literal) (rest : List Word) (v : Counted TextLit) → ws ≡ literal_words l ++ rest → EndsPart rest → literal_spelled l ≡ Some v
     → IsSpelled (Term × Option (TokenKind × Term)) (Counted TextLit) (λ d. sign Not ∷ plain_literal_words d) (λ d. option_and_then negation (plain_literal_spelled d)) (literal_words l) v
 from_negated ws front (positive a) rest v words_are ends e = absurd (not_atom a rest ws front words_are)
 from_negated ws front (test l kind r) rest v words_are ends e = absurd (not_leads l (sign kind ∷ term_words r ++ rest) ws front (words_are ∙ append_assoc (term_words l) (sign kind ∷ term_words r) rest))

@@ -24,7 +24,7 @@ use Rattle.ms_read_part.proofs.Fronts.{front-sign, begins_term, term_leads, cmp-
 use Rattle.ms_read_part.proofs.Literals.{follows_comparison}
 
 -- What opens a group is nothing else.
-opens-end : (front : Option TokenKind) → opens front ≡ true → ends_at front ≡ false
+pub opens-end : (front : Option TokenKind) → opens front ≡ true → ends_at front ≡ false
 opens-end (Some LeftBrace) h = refl
 opens-end (Some CountKind) h = refl
 opens-end (Some SumKind) h = refl
@@ -81,7 +81,7 @@ opens_no_term t rest ws opened is =
     let no_begin = opens-begins (front_kind ws) opened in
     (let false' : ⊥ = cc in false')
 
-true_false : {b : Bool} → b ≡ true → b ≡ false → ⊥
+pub true_false : {b : Bool} → b ≡ true → b ≡ false → ⊥
 true_false h k = (let false' : ⊥ = cc in false')
 
 -- the comparison that a tail begins with
