@@ -1,5 +1,5 @@
 -- Names that were seen, and whether they differ.
-use Rattle.std.proofs.Common.{◌≡◌, ◌≢◌, ℕ, ◌+◌, ◌<◌, ◌≤◌, Bool, true, false, cond, List, [], ◌∷◌, ◌++◌, length, take, get_or, refl, sym, ap, ◌∙◌, inl, inr, ◌⊎◌, subst, AllPairs, Decides, Ordering, arith}
+use Rattle.std.proofs.Common.{◌≡◌, ◌≢◌, ℕ, ◌+◌, ◌<◌, ◌≤◌, Bool, true, false, not, cond, List, [], ◌∷◌, ◌++◌, length, take, get_or, refl, sym, ap, ◌∙◌, inl, inr, ◌⊎◌, subst, AllPairs, Decides, Ordering, arith}
 use Rattle.std.specs.List.{Contains}
 use Rattle.std.specs.Ordering.{nat_cmp, eq_by_cmp}
 use Rattle.std.specs.Cmp.Lexicographic.{slice_cmp}
@@ -80,4 +80,13 @@ module _ (names : List (List ℕ)) (i : ℕ) (inside : i < length names) (key d 
 
 -- all names have been seen
 pub all_apart : (seen : BTreeSet (List ℕ)) (n : ℕ) (names : List (List ℕ)) → length names ≤ n → AreSeen seen (take n names) → Differ names
-all_apart seen n names all h = rw take_all n names all at h.differ
+all_apart seen n names all h = rw (take_all n names all) at h.differ
+
+-- what `insert` tells of the set before
+pub was_seen : (new seen : Bool) → new ≡ not seen → not new ≡ true → seen ≡ true
+was_seen new true e h = refl
+was_seen new false e h = cc
+
+pub was_new : (new seen : Bool) → new ≡ not seen → not new ≡ false → seen ≡ false
+was_new new true e h = cc
+was_new new false e h = refl

@@ -8,7 +8,7 @@ use Rattle.ms_grammar.specs.Words.{Word, word_of, words_of}
 use Rattle.ms_grammar.specs.Values.{Spelling, numeral, negative, string, constant, no_arguments, function, empty_tuple, tuple, tuple_comma, value_words, value_part}
 use Rattle.ms_grammar.specs.Reading.{IsFront, IsLongest}
 use Rattle.ms_parse.specs.declared.ValueAt.{ValueAt}
-use Rattle.ms_parse.specs.ValuesAt.{SpellsValue, IsLongestFrom}
+use Rattle.ms_parse.specs.ValuesAt.{value_at, SpellsValue, IsLongestFrom}
 
 some_word : (v : Spelling) → value_words v ≡ [] → ⊥
 some_word (numeral n) e = cc
@@ -26,7 +26,7 @@ IsValueFront = IsFront Spelling ValuePart value_words value_part
 
 -- what was found, by its place
 abbrev pub place : ℕ → ValuePart × ℕ → ValueAt
-place from found = record { value = found.0.value; next = from + found.1 }
+place from found = value_at found.0 (from + found.1)
 
 module _ (text : List ℕ) (tokens : List Token) (from : ℕ) (begins : from ≤ length tokens) where
   abbrev words_from : List Word
@@ -80,3 +80,13 @@ module _ (text : List ℕ) (tokens : List Token) (from : ℕ) (begins : from ≤
     sound = sound_place found h.sound;
     longest = λ other s. longest_place found other s (h.longest s.part (other.next - from) (front_from_spells other s));
   }
+
+  -- the place after the value is one of the tokens' or their end
+  pub next_within : (part : ValuePart) (n : ℕ) (found : Option (ValuePart × ℕ)) → found ≡ Some (part, n) → IsLongest Spelling ValuePart value_words value_part words_from found → from + n ≤ length tokens
+  next_within part n found is h = let front = rw is at h.sound in omega (arith, front.within, words_len)
+
+  pub longest_some : (part : ValuePart) (n : ℕ) (found : Option (ValuePart × ℕ)) → found ≡ Some (part, n) → IsLongest Spelling ValuePart value_words value_part words_from found → IsLongestFrom text tokens from (Some (place from (part, n)))
+  longest_some part n found is h = rw is at (longest_from found h)
+
+  pub longest_none : (found : Option (ValuePart × ℕ)) → found ≡ None → IsLongest Spelling ValuePart value_words value_part words_from found → IsLongestFrom text tokens from None
+  longest_none found is h = rw is at (longest_from found h)
