@@ -83,10 +83,10 @@ pub all_apart : (seen : BTreeSet (List ℕ)) (n : ℕ) (names : List (List ℕ))
 all_apart seen n names all h = rw (take_all n names all) at h.differ
 
 -- what `insert` tells of the set before
-pub was_seen : (new seen : Bool) → new ≡ not seen → not new ≡ true → seen ≡ true
+pub was_seen : (new seen : Bool) → new ≡ not seen → new ≡ false → seen ≡ true
 was_seen new true e h = refl
 was_seen new false e h = cc
 
-pub was_new : (new seen : Bool) → new ≡ not seen → not new ≡ false → seen ≡ false
+pub was_new : (new seen : Bool) → new ≡ not seen → new ≡ true → seen ≡ false
 was_new new true e h = cc
 was_new new false e h = refl

@@ -1,5 +1,6 @@
 -- Rules, from their heads and what follows them.
 use Rattle.std.proofs.Common.{◌≡◌, ℕ, List, [], ◌∷◌, ◌++◌, Option, Some, None, refl, sym, ap, ◌∙◌, subst}
+use Rattle.std.specs.Option.{option_map}
 use Rattle.ms_grammar.specs.declared.statement.Head.{Head as HeadForm}
 use Rattle.ms_grammar.specs.declared.statement.Form.{Form}
 use Rattle.ms_grammar.specs.declared.statement.Form.TheVariants.{Rule}
@@ -93,3 +94,7 @@ module _ (ws : List Word) (head : Counted HeadForm) (after : List Word) (split :
           let same : body ≡ p.body = cc (h.complete r.1 p.body p.after_is p.body_is) in
           ap Some (ap (λ (x : Parts). beside Rule head x) same ∙ sym p.whole_is);
       }
+
+  pub rule_from_tail : (ws ≡ [] → ⊥) → (found : Option Parts) → IsTail after found → IsRule ws (option_map (beside Rule head) found)
+  rule_from_tail some None h = rule_without_tail h
+  rule_from_tail some (Some body) h = rule_found some body h
