@@ -1,5 +1,6 @@
 -- What stands before a dot, by the first word.
 use Rattle.std.proofs.Common.{◌≡◌, ◌≢◌, ℕ, nat_eq, nat_le, cond, Bool, true, false, List, [], ◌∷◌, ◌++◌, Option, Some, None, IfSome, IsSomeAnd, MatchOption, refl, sym, ap, ◌∙◌, subst, codes}
+use Rattle.std.specs.Bool.{then_some}
 use Rattle.std.specs.Option.{option_map, option_and_then}
 use Rattle.std.specs.Cmp.Lexicographic.{pointwise, bytes_decides}
 use Rattle.ms_text.specs.declared.token.Token.{Token}
@@ -160,7 +161,7 @@ include_only (rule h t) ws e = absurd (no_rule h t (sign Include) ws refl e)
 include_only include ws e = (refl, cc)
 include_only _ ws e = absurd (let f : ⊥ = cc in f)
 
-pub content_of_include : (ws : List Word) (b : Bool) → b ≡ is_incmode ws → IsContent (sign Include ∷ ws) (cond b (Some (alone IncludeIncmode)) None)
+pub content_of_include : (ws : List Word) (b : Bool) → b ≡ is_incmode ws → IsContent (sign Include ∷ ws) (then_some b (alone IncludeIncmode))
 content_of_include ws true e = record {
   sound = record { derivation = include; words_are = ap (λ vs. sign Include ∷ vs) (sym (include_words ws (sym e))); spells = refl };
   complete = λ s value words spelled.
@@ -230,7 +231,7 @@ module _ (text : List ℕ) (content after : List Token) (first : Token) (split :
   pub show_read : first.kind ≡ Show → (found : Option Form) → found ≡ show_in (words_of text after) → result ≡ option_map alone found → IsContent (words_of text content) result
   show_read kind found h e = rw (e, h, begins_with Show (λ t. refl) kind) (content_of_show _)
 
-  pub include_read : first.kind ≡ Include → (b : Bool) → b ≡ is_incmode (words_of text after) → result ≡ cond b (Some (alone IncludeIncmode)) None → IsContent (words_of text content) result
+  pub include_read : first.kind ≡ Include → (b : Bool) → b ≡ is_incmode (words_of text after) → result ≡ then_some b (alone IncludeIncmode) → IsContent (words_of text content) result
   include_read kind b h e = rw (e, begins_with Include (λ t. refl) kind) (content_of_include _ b h)
 
   pub rule_read : (first.kind ≡ Program → ⊥) → (first.kind ≡ External → ⊥) → (first.kind ≡ Const → ⊥) → (first.kind ≡ Show → ⊥) → (first.kind ≡ Include → ⊥) → IsRule (words_of text content) result → IsContent (words_of text content) result
