@@ -40,11 +40,11 @@ module _ (D V : Type 0) (words : D → List Word) (spelled : D → Option V) (ki
   content_of_line ws found h = record {
     sound = sound_line ws found h.sound;
     complete = λ s value e spells.
-      let d = covers s ws e in
-      let here : option_map f (spelled d.0) ≡ Some value = sym (spelled_is d.0) ∙ ap sentence_spelled d.1 ∙ spells in
-      let p = part_from f (spelled d.0) value here in
-      let rest : sign kind ∷ words d.0 ≡ sign kind ∷ ws = sym (words_are d.0) ∙ ap content_words d.1 ∙ e in
-      ap (option_map f) (h.complete d.0 p.0 (cc) p.1) ∙ ap Some p.2;
+        let d = covers s ws e in
+        let here : option_map f (spelled d.0) ≡ Some value = sym (spelled_is d.0) ∙ ap sentence_spelled d.1 ∙ spells in
+        let p = part_from f (spelled d.0) value here in
+        let rest : sign kind ∷ words d.0 ≡ sign kind ∷ ws = sym (words_are d.0) ∙ ap content_words d.1 ∙ e in
+        ap (option_map f) (h.complete d.0 p.0 (cc) p.1) ∙ ap Some p.2;
   }
 
 program_covers : (s : Sentence) (ws : List Word) → content_words s ≡ sign Program ∷ ws → (l : ProgramLine) × (program l.program_name l.params l.differ ≡ s)
@@ -165,15 +165,15 @@ pub content_of_include : (ws : List Word) (b : Bool) → b ≡ is_incmode ws →
 content_of_include ws true e = record {
   sound = record { derivation = include; words_are = ap (λ vs. sign Include ∷ vs) (sym (include_words ws (sym e))); spells = refl };
   complete = λ s value words spelled.
-    let only = include_only s ws words in
-    ap sentence_spelled (sym only.0) ∙ spelled;
+      let only = include_only s ws words in
+      ap sentence_spelled (sym only.0) ∙ spelled;
 }
 content_of_include ws false e = record {
   sound = tt;
   complete = λ s value words spelled.
-    let only = include_only s ws words in
-    let read : is_incmode ws ≡ true = ap is_incmode (sym only.1) in
-    absurd (let f : ⊥ = cc in f);
+      let only = include_only s ws words in
+      let read : is_incmode ws ≡ true = ap is_incmode (sym only.1) in
+      absurd (let f : ⊥ = cc in f);
 }
 
 module _ (w : Word) (ws : List Word) (plain : is_directive w ≡ false) (found : Option (Counted Form)) (h : IsRule (w ∷ ws) found) where

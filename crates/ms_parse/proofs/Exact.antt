@@ -34,8 +34,8 @@ module _ (D V : Type 0) (words : D → List Word) (spelled : D → Option V) whe
   exact_from_read Ends at_end ws found read = record {
     sound = sound_whole ws found read.sound;
     complete = λ d value e s.
-      let is : found ≡ Some (value, length (words d)) = read.complete d [] value (sym e ∙ sym (append-nil (words d))) at_end s in
-      rw is (whole_same value (length (words d)) (length ws) (ap length e));
+        let is : found ≡ Some (value, length (words d)) = read.complete d [] value (sym e ∙ sym (append-nil (words d))) at_end s in
+        rw is (whole_same value (length (words d)) (length ws) (ap length e));
   }
 
   -- the same over tokens

@@ -25,8 +25,8 @@ module _ (D V : Type 0) (words : D → List Word) (spelled : D → Option V) (En
         words_are = rw front.words_are (sym (take-append-drop n ws));
         spells = front.spells;
         only = λ d rest other is ends s.
-          let parts = some_pair_parts value other n (length (words d)) (sym e ∙ read.complete d rest other is ends s) in
-          (sym parts.0, rw (parts.1, is) (sym (drop-append_seam (words d) rest)));
+            let parts = some_pair_parts value other n (length (words d)) (sym e ∙ read.complete d rest other is ends s) in
+            (sym parts.0, rw (parts.1, is) (sym (drop-append_seam (words d) rest)));
       }
 
   pub none_from_read : (ws : List Word) (found : Option (V × ℕ)) → found ≡ None → IsRead D V words spelled Ends ws found → HasNone ws

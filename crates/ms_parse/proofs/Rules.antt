@@ -48,8 +48,8 @@ pub rule_without_head : (ws : List Word) → HasNoHead ws → IsRule ws None
 rule_without_head ws none = record {
   sound = tt;
   complete = λ r whole words spelled.
-    let p = rule_parts r.0 r.1 whole spelled in
-    absurd (none r.0 (tail_words r.1) p.left (sym words) (ends_at_tail r.1) p.left_is);
+      let p = rule_parts r.0 r.1 whole spelled in
+      absurd (none r.0 (tail_words r.1) p.left (sym words) (ends_at_tail r.1) p.left_is);
 }
 
 module _ (ws : List Word) (head : Counted HeadForm) (after : List Word) (split : IsHeadSplit ws head after) where
@@ -75,8 +75,8 @@ module _ (ws : List Word) (head : Counted HeadForm) (after : List Word) (split :
   rule_without_tail none = record {
     sound = tt;
     complete = λ r whole words spelled.
-      let p = has_head r.0 r.1 whole words spelled in
-      absurd (let f : ⊥ = cc (none.complete r.1 p.body p.after_is p.body_is) in f);
+        let p = has_head r.0 r.1 whole words spelled in
+        absurd (let f : ⊥ = cc (none.complete r.1 p.body p.after_is p.body_is) in f);
   }
 
   pub rule_found : (ws ≡ [] → ⊥) → (body : Parts) → IsTail after (Some body) → IsRule ws (Some (beside Rule head body))
@@ -90,9 +90,9 @@ module _ (ws : List Word) (head : Counted HeadForm) (after : List Word) (split :
           spells = rule_spelled-join split.derivation t (λ e. some (sym words ∙ e)) ∙ rw (split.spells, h.sound.spells) refl;
         };
         complete = λ r whole words spelled.
-          let p = has_head r.0 r.1 whole words spelled in
-          let same : body ≡ p.body = cc (h.complete r.1 p.body p.after_is p.body_is) in
-          ap Some (ap (λ (x : Parts). beside Rule head x) same ∙ sym p.whole_is);
+            let p = has_head r.0 r.1 whole words spelled in
+            let same : body ≡ p.body = cc (h.complete r.1 p.body p.after_is p.body_is) in
+            ap Some (ap (λ (x : Parts). beside Rule head x) same ∙ sym p.whole_is);
       }
 
   pub rule_from_tail : (ws ≡ [] → ⊥) → (found : Option Parts) → IsTail after found → IsRule ws (option_map (beside Rule head) found)

@@ -70,10 +70,12 @@ module _ (text : List ℕ) (tokens : List Token) (from : ℕ) (begins : from ≤
 
   longest_place : (o : Option (ValuePart × ℕ)) (other : ValueAt) (s : SpellsValue text tokens from other) → IsSomeAnd o (λ f. (other.next - from ≤ f.1) × (other.next - from ≡ f.1 → s.part ≡ f.0)) → IsSomeAnd (option_map (place from) o) (λ f. (other.next ≤ f.next) × (other.next ≡ f.next → other.value ≡ f.value))
   longest_place None other s h = absurd h
-  longest_place (Some f) other s h =
-      (omega (arith, h.0, s.after), λ e.
+  longest_place (Some f) other s h = (
+    omega (arith, h.0, s.after),
+    λ e.
         let same : other.next - from ≡ f.1 = omega (arith, e) in
-        sym s.value_is ∙ ap (λ (p : ValuePart). p.value) (h.1 same))
+        sym s.value_is ∙ ap (λ (p : ValuePart). p.value) (h.1 same),
+  )
 
   pub longest_from : (found : Option (ValuePart × ℕ)) → IsLongest Spelling ValuePart value_words value_part words_from found → IsLongestFrom text tokens from (option_map (place from) found)
   longest_from found h = record {

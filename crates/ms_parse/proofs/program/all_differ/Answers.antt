@@ -5,9 +5,10 @@ use Rattle.ms_parse.proofs.program.all_differ.Goals as goal
 pub returns-then-not-is_new : goal.returns-then-not-is_new
 returns-then-not-is_new c =
     let inside = rw c.as_slice-name-items.ensures at c.loop-name-test.true in
-    let item = rw c.as_slice-name-items.ensures at c.name-item.is in
-    (λ e. absurd (let f : ⊥ = cc in f),
-     λ differ. absurd (alike_from_seen c.args.names.now _ inside _ _ (c.in_ok-copied.ensures ∙ c.as_slice.ensures ∙ item) _ c.loop-name.invariant (was_seen _ _ c.in_ok-is_new.ensures.added c.if-not-is_new.true) differ))
+    let item = rw c.as_slice-name-items.ensures at c.name-item.is in (
+      λ e. absurd (let f : ⊥ = cc in f),
+      λ differ. absurd (alike_from_seen c.args.names.now _ inside _ _ (c.in_ok-copied.ensures ∙ c.as_slice.ensures ∙ item) _ c.loop-name.invariant (was_seen _ _ c.in_ok-is_new.ensures.added c.if-not-is_new.true) differ),
+    )
 
 pub loop-name-preserved : goal.loop-name-preserved
 loop-name-preserved c =

@@ -32,6 +32,7 @@ pub loop-body-preserved : goal.loop-body-preserved
 loop-body-preserved c =
     let text = c.args.text.now in
     let split = split_tokens BodyPart Part body_part_words body_part_spelled EndsPart text c.loop-body.rest.now c.in-Some.part c.in-Some.count _ c.in-Some.is c.in_ok-part.ensures c.split_at.result.1.now c.split_at.ensures.back in
-    let s = separated_words text c.split_at.result.1.now c.in-Some-after_separator.more.now c.in-Some-after_separator.ensures in
-    (rw c.in_ok-body.ensures (read_to_more _ _ _ c.loop-body.invariant.0 c.in-Some.part _ split s.comma _ s.words_are),
-     separator_within _ _ _ c.in-Some-after_separator.ensures (drop_within _ c.in-Some.count c.loop-body.rest.now _ c.split_at.ensures.back c.loop-body.invariant.1))
+    let s = separated_words text c.split_at.result.1.now c.in-Some-after_separator.more.now c.in-Some-after_separator.ensures in (
+      rw c.in_ok-body.ensures (read_to_more _ _ _ c.loop-body.invariant.0 c.in-Some.part _ split s.comma _ s.words_are),
+      separator_within _ _ _ c.in-Some-after_separator.ensures (drop_within _ c.in-Some.count c.loop-body.rest.now _ c.split_at.ensures.back c.loop-body.invariant.1),
+    )
