@@ -1,10 +1,8 @@
 -- Bodies, read part by part.
-use Rattle.std.proofs.Common.{◌≡◌, ℕ, Bool, true, false, List, [], ◌∷◌, ◌++◌, map, Option, Some, None, refl, sym, ap, ◌∙◌, subst, append-nil}
-use Rattle.std.proofs.Common.{inl, inr, ◌⊎◌}
-use Rattle.ms_text.specs.declared.token.TokenKind.TheVariants.{Comma, Semicolon}
+use Rattle.std.proofs.Common.{◌≡◌, Bool, true, false, List, [], ◌∷◌, ◌++◌, map, Some, None, refl, sym, ap, ◌∙◌, subst}
 use Rattle.ms_grammar.specs.declared.statement.BodyLit.{BodyLit}
 use Rattle.ms_grammar.specs.declared.part.Counted.{Counted}
-use Rattle.ms_grammar.specs.Words.{Word, sign}
+use Rattle.ms_grammar.specs.Words.{Word}
 use Rattle.ms_grammar.specs.Reading.{EndsPart}
 use Rattle.ms_grammar.specs.Statements.{BodyPart, body_part_words, body_part_spelled, Body, body_words, body_spelled, more_words, separator, row_of, alone}
 use Rattle.ms_parse.specs.Content.{IsSpelled, IsBody, with_part}

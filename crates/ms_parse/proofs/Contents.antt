@@ -1,8 +1,8 @@
 -- What stands before a dot, by the first word.
-use Rattle.std.proofs.Common.{◌≡◌, ◌≢◌, ℕ, nat_eq, nat_le, cond, Bool, true, false, List, [], ◌∷◌, ◌++◌, Option, Some, None, IfSome, IsSomeAnd, MatchOption, refl, sym, ap, ◌∙◌, subst, codes}
+use Rattle.std.proofs.Common.{◌≡◌, ℕ, nat_le, cond, Bool, true, false, List, [], ◌∷◌, ◌++◌, Option, Some, None, IfSome, IsSomeAnd, MatchOption, refl, sym, ap, ◌∙◌, subst, codes}
 use Rattle.std.specs.Bool.{then_some}
 use Rattle.std.specs.Option.{option_map, option_and_then}
-use Rattle.std.specs.Cmp.Lexicographic.{pointwise, bytes_decides}
+use Rattle.std.specs.Cmp.Lexicographic.{bytes_decides}
 use Rattle.ms_text.specs.declared.token.Token.{Token}
 use Rattle.ms_text.specs.declared.token.TokenKind.{TokenKind}
 use Rattle.ms_text.specs.declared.token.TokenKind.TheVariants.{Program, External, Const, Show, Include, Slash, Less, Greater}
@@ -13,10 +13,9 @@ use Rattle.ms_grammar.specs.declared.part.Counted.{Counted}
 use Rattle.ms_grammar.specs.Words.{Word, name, number, sign, word_by_kind, word_of, words_of}
 use Rattle.ms_grammar.specs.Terms.{greatest_numeral}
 use Rattle.ms_grammar.specs.Statements.{Atom, rule_spelled, Sentence, rule, program, external, const, show, show_none, include, sentence_spelled, alone, with_value, HeadPart, head_words, Tail, tail_words}
-use Rattle.ms_parse.specs.Words.{name_in, numeral_in, is_name, show_in, is_incmode}
+use Rattle.ms_parse.specs.Words.{is_name, show_in, is_incmode}
 use Rattle.ms_parse.specs.Content.{IsSpelled, IsExact, IsContent, IsRule, IsAtom, ConstLine, IsConstLine, ProgramLine, IsProgramLine, content_words}
 use Rattle.ms_parse.proofs.Lines.{part_from}
-use Rattle.ms_parse.proofs.NameLemmas.{name_from_word}
 use Rattle.ms_parse.proofs.PlainStarts.{is_directive, StartsPlain, rule_plain}
 use Rattle.ms_parse.proofs.Rules.{rule_of_none}
 use Rattle.ms_parse.proofs.SignLemmas.{sign_from_kind}

@@ -3,13 +3,12 @@ use Rattle.std.proofs.Common.{◌≡◌, ◌≢◌, ℕ, List, [], ◌∷◌, Op
 use Rattle.std.specs.Option.{option_map}
 use Rattle.ms_text.specs.declared.token.TokenKind.TheVariants.{Equal}
 use Rattle.ms_grammar.specs.declared.part.ValuePart.{ValuePart}
-use Rattle.ms_grammar.specs.declared.statement.Form.{Form}
 use Rattle.ms_grammar.specs.declared.statement.Form.TheVariants.{Program, Const}
 use Rattle.ms_grammar.specs.Words.{Word, name, sign}
 use Rattle.ms_grammar.specs.Values.{value_words, value_part}
 use Rattle.ms_grammar.specs.Statements.{parameters_words, parameter_names}
 use Rattle.ms_parse.specs.Words.{name_in, parameters_in}
-use Rattle.ms_parse.specs.Content.{IsProgramLine, ProgramLine, IsConstLine, ConstLine, IsValue}
+use Rattle.ms_parse.specs.Content.{IsProgramLine, ProgramLine, IsConstLine, IsValue}
 use Rattle.ms_parse.proofs.NameLemmas.{name_from_word, parameters_in-spelled, parameters_from}
 
 abbrev Differ : List (List ℕ) → Type 0

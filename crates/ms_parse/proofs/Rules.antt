@@ -1,13 +1,13 @@
 -- Rules, from their heads and what follows them.
-use Rattle.std.proofs.Common.{◌≡◌, ℕ, List, [], ◌∷◌, ◌++◌, Option, Some, None, refl, sym, ap, ◌∙◌, subst}
+use Rattle.std.proofs.Common.{◌≡◌, List, [], ◌++◌, Option, Some, None, refl, sym, ap, ◌∙◌}
 use Rattle.std.specs.Option.{option_map}
 use Rattle.ms_grammar.specs.declared.statement.Head.{Head as HeadForm}
 use Rattle.ms_grammar.specs.declared.statement.Form.{Form}
 use Rattle.ms_grammar.specs.declared.statement.Form.TheVariants.{Rule}
 use Rattle.ms_grammar.specs.declared.part.Counted.{Counted}
-use Rattle.ms_grammar.specs.Words.{Word, sign}
+use Rattle.ms_grammar.specs.Words.{Word}
 use Rattle.ms_grammar.specs.Reading.{EndsPart}
-use Rattle.ms_grammar.specs.Statements.{Atom, plain, applied, HeadPart, no_head, atom_head, choice_head, head_words, head_spelled, Tail, no_tail, empty_tail, tail, tail_words, tail_spelled, rule_spelled, join, beside}
+use Rattle.ms_grammar.specs.Statements.{plain, applied, HeadPart, no_head, atom_head, choice_head, head_words, head_spelled, Tail, no_tail, empty_tail, tail, tail_words, tail_spelled, rule_spelled, join, beside}
 use Rattle.ms_parse.specs.Content.{IsTail, IsRule}
 use Rattle.ms_parse.proofs.Fronts.{IsSplit, HasNone}
 use Rattle.ms_parse.proofs.Copies.{AreBoth, both_from_join}

@@ -1,5 +1,5 @@
 -- A front of tokens that spells a value, and the tokens after it.
-use Rattle.std.proofs.Common.{◌≡◌, ℕ, ◌≤◌, List, ◌++◌, length, drop, Option, Some, sym, ap, ◌∙◌, subst, arith}
+use Rattle.std.proofs.Common.{◌≡◌, ℕ, ◌≤◌, List, length, drop, Option, Some, sym, ap, ◌∙◌, subst, arith}
 use Rattle.std.proofs.lemmas.List.{length-map, drop-map}
 use Rattle.ms_text.specs.declared.token.Token.{Token}
 use Rattle.ms_grammar.specs.Words.{Word, word_of, words_of}

@@ -1,5 +1,5 @@
 -- The longest value at a place, from the longest front of the words from there.
-use Rattle.std.proofs.Common.{◌≡◌, ℕ, ◌+◌, ◌-◌, ◌<◌, ◌≤◌, List, [], ◌∷◌, ◌++◌, length, take, drop, slice_range, Option, Some, None, IfSome, IsSomeAnd, refl, sym, ap, ◌∙◌, subst, take-append-drop, length-drop, arith}
+use Rattle.std.proofs.Common.{◌≡◌, ℕ, ◌+◌, ◌-◌, ◌≤◌, List, [], length, take, drop, slice_range, Option, Some, None, IfSome, IsSomeAnd, refl, sym, ap, ◌∙◌, length-drop, arith}
 use Rattle.std.specs.Option.{option_map}
 use Rattle.std.proofs.lemmas.List.{length-map, take-map}
 use Rattle.ms_text.specs.declared.token.Token.{Token}

@@ -1,4 +1,4 @@
-use Rattle.ms_parse.proofs.ValueLemmas.{next_within, longest_some, longest_none}
+use Rattle.ms_parse.proofs.ValueLemmas.{longest_some, longest_none}
 use Rattle.ms_parse.proofs.read_value.Goals as goal
 
 pub returns-in-None : goal.returns-in-None

@@ -1,7 +1,5 @@
-use Rattle.std.proofs.Common.{◌≡◌, ◌++◌, ◌∷◌, [], Some, sym, ◌∙◌, subst, List, ℕ}
-use Rattle.ms_grammar.specs.Words.{word_of}
-use Rattle.ms_parse.specs.Words.{name_in}
-use Rattle.ms_parse.proofs.NameSteps.{AreNamesTo, names_broken, names_go_on}
+use Rattle.std.proofs.Common.{sym, ◌∙◌}
+use Rattle.ms_parse.proofs.NameSteps.{names_broken, names_go_on}
 use Rattle.ms_parse.proofs.SignLemmas.{rest_within, after_within}
 use Rattle.ms_parse.proofs.program.read_names.Goals as goal
 

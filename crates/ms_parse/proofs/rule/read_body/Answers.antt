@@ -1,6 +1,4 @@
-use Rattle.std.proofs.Common.{refl, sym, ap, ◌∙◌}
-use Rattle.ms_grammar.specs.declared.statement.BodyLit.{BodyLit}
-use Rattle.ms_grammar.specs.declared.part.Counted.{Counted}
+use Rattle.std.proofs.Common.{sym, ap}
 use Rattle.ms_grammar.specs.Words.{words_of}
 use Rattle.ms_grammar.specs.Reading.{EndsPart}
 use Rattle.ms_grammar.specs.Statements.{BodyPart, body_part_words, body_part_spelled}

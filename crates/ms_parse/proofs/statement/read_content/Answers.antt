@@ -1,4 +1,3 @@
-use Rattle.std.proofs.Common.{◌∙◌, ap, cond}
 use Rattle.std.proofs.lemmas.Result.{IfOk-weaker}
 use Rattle.ms_parse.proofs.Contents.{mapped, program_read, external_read, const_read, show_read, include_read, rule_read}
 use Rattle.ms_parse.proofs.statement.read_content.Goals as goal

@@ -1,4 +1,4 @@
-use Rattle.std.proofs.Common.{sym, ◌∙◌}
+use Rattle.std.proofs.Common.{sym}
 use Rattle.ms_parse.proofs.PieceLemmas.{kind_of_dot, other_kind}
 use Rattle.ms_parse.proofs.SignLemmas.{front_within}
 use Rattle.ms_parse.proofs.StatementLemmas.{no_dot, statement_spelled, statement_only}
