@@ -452,7 +452,7 @@ fn reads_deep_texts(rt: HostRuntime) -> Result<(), Fail> {
     let tokens = read(rt.alloc(), &text)?.map(|found| found.1);
     assert_eq!(rt; tokens, Some(200_001), "parentheses round one term");
     for opening in [b"f(".as_slice(), b"(", b"|", b"-"] {
-        let text = nested(rt.alloc(), opening, 1_000_000, b"")?;
+        let text = nested(rt.alloc(), opening, 100_000, b"")?;
         let found = read(rt.alloc(), &text)?;
         assert!(rt; found.is_none(), "{opening:?}");
     }
