@@ -378,12 +378,7 @@ fn read(alloc: Global, text: &[u8]) -> Result<Option<(Part, usize)>, Fail> {
 }
 
 // A term in so many brackets.
-fn nested(
-    alloc: Global,
-    opening: &[u8],
-    count: usize,
-    closing: &[u8],
-) -> Result<Vec<u8>, Fail> {
+fn nested(alloc: Global, opening: &[u8], count: usize, closing: &[u8]) -> Result<Vec<u8>, Fail> {
     let mut text = Vec::new(alloc);
     for _ in 0..count {
         text.extend_from_slice(opening)?;
