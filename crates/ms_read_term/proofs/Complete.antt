@@ -128,7 +128,7 @@ product_read op kind frames low sum lefts rights rest pl pr p goes l r j = recor
       ∙ l.runs
       ∙ run_step (at frames (level low sum l.product_left 0) l.part) (sign kind) (rights ++ rest) _ (goes (level low sum l.product_left 0) l.part ∙ made_some (λ q. next (wanted frames (level low sum (Some (record { part = q; sign = op })) 0))) (closed_product (level low sum l.product_left 0) l.part) pl l.closes)
       ∙ r;
-  closes = j
+  closes = j;
 }
 
 sum_read : (op : SumSign) (kind : TokenKind) (frames : List Frame) (low : Option Part) (lefts rights rest : List Word) (pl pr p : Part) → ((l : Level) (q : Part) → behind frames l q kind ≡ sum_pending frames l q op) → ReadSum frames low lefts (sign kind ∷ (rights ++ rest)) pl → ReadProduct frames low (Some (record { part = pl; sign = op })) rights rest pr → joined (Binary (op_of_sum op)) pl pr ≡ Some p → ReadSum frames low (lefts ++ sign kind ∷ rights) rest p
@@ -141,7 +141,7 @@ sum_read op kind frames low lefts rights rest pl pr p goes l r j = record {
       ∙ l.runs
       ∙ run_step (at frames (level low l.sum_left l.product_left 0) l.part) (sign kind) (rights ++ rest) _ (goes (level low l.sum_left l.product_left 0) l.part ∙ made_some (λ q. next (wanted frames (level low (Some (record { part = q; sign = op })) None 0))) (closed_sum (level low l.sum_left l.product_left 0) l.part) pl l.closes)
       ∙ r.runs;
-  closes = ap (option_and_then (with_sum (Some (record { part = pl; sign = op })))) r.closes ∙ j
+  closes = ap (option_and_then (with_sum (Some (record { part = pl; sign = op })))) r.closes ∙ j;
 }
 
 sum_of_product : (frames : List Frame) (low : Option Part) (words rest : List Word) (p : Part) → ReadProduct frames low None words rest p → ReadSum frames low words rest p
@@ -150,7 +150,7 @@ sum_of_product frames low words rest p r = record {
   product_left = r.product_left;
   part = r.part;
   runs = r.runs;
-  closes = ap (option_and_then (with_sum None)) r.closes
+  closes = ap (option_and_then (with_sum None)) r.closes;
 }
 
 term_of_sum : (frames : List Frame) (words rest : List Word) (p : Part) → ReadSum frames None words rest p → ReadTerm frames words rest p
@@ -158,7 +158,7 @@ term_of_sum frames words rest p r = record {
   level_left = level None r.sum_left r.product_left 0;
   part = r.part;
   runs = r.runs;
-  closes = ap (option_and_then (with_low None)) r.closes
+  closes = ap (option_and_then (with_low None)) r.closes;
 }
 
 interval_read : (frames : List Frame) (lefts rights rest : List Word) (pl ph p : Part) → ReadSum frames None lefts (sign DotDot ∷ (rights ++ rest)) pl → ReadSum frames (Some pl) rights rest ph → joined Interval pl ph ≡ Some p → ReadTerm frames (lefts ++ sign DotDot ∷ rights) rest p
@@ -170,7 +170,7 @@ interval_read frames lefts rights rest pl ph p l r j = record {
       ∙ l.runs
       ∙ run_step (at frames (level None l.sum_left l.product_left 0) l.part) (sign DotDot) (rights ++ rest) _ (made_some _ _ pl l.closes)
       ∙ r.runs;
-  closes = ap (option_and_then (with_low (Some pl))) r.closes ∙ j
+  closes = ap (option_and_then (with_low (Some pl))) r.closes ∙ j;
 }
 
 terms_of_term : (frames : List Frame) (outside : Level) (bracket : Bracket) (words rest : List Word) (p : Part) → ReadTerm (frame outside bracket None ∷ frames) words rest p → ReadTerms frames outside bracket words rest (with_term no_terms p)
@@ -181,7 +181,7 @@ terms_of_term frames outside bracket words rest p r = record {
   term = p;
   runs = r.runs;
   closes = r.closes;
-  row_is = refl
+  row_is = refl;
 }
 
 terms_read : (frames : List Frame) (outside : Level) (bracket : Bracket) (lefts rights rest : List Word) (left : Row) (p : Part) → HasLists bracket → ReadTerms frames outside bracket lefts (sign Comma ∷ (rights ++ rest)) left → ReadTerm (frame outside bracket (Some left) ∷ frames) rights rest p → ReadTerms frames outside bracket (lefts ++ sign Comma ∷ rights) rest (with_term left p)
@@ -196,7 +196,7 @@ terms_read frames outside bracket lefts rights rest left p lists l r = record {
       ∙ run_step (at (frame outside bracket l.before ∷ frames) l.level_left l.part) (sign Comma) (rights ++ rest) _ (comma_behind frames outside bracket l.before l.level_left l.part l.term left lists l.closes l.row_is)
       ∙ r.runs;
   closes = r.closes;
-  row_is = refl
+  row_is = refl;
 }
 
 divider_stays : (e : Divider) → stays (kind_at e)

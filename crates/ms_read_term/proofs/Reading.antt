@@ -23,7 +23,7 @@ front_found ws rest p s = record {
   derivation = s.derivation;
   within = omega arith;
   words_are = front_is ws (term_words s.derivation) rest s.words_are;
-  spells = s.spells
+  spells = s.spells;
 }
 
 all_fronts : (ws : List Word) (o : Option (Part × List Word)) → Finds ws o → IfSome {T = Part × ℕ} (numbered ws o) (λ f. IsFront Term Part term_words term_part ws f.0 f.1)
@@ -36,7 +36,7 @@ is_read ws = record {
   complete = λ d rest p e ends spells.
       ap (λ vs. numbered ws (run at_start vs)) e
       ∙ ap (numbered ws) (complete d rest p ends spells)
-      ∙ ap (λ n. Some (p, n)) (front_length ws (term_words d) rest e)
+      ∙ ap (λ n. Some (p, n)) (front_length ws (term_words d) rest e);
 }
 
 pub if_read : (r : Result (Option (Part × ℕ)) OutOfMemory) (reader : Reader) (ws : List Word) → reader ≡ at_start → IfOk r (λ found. found ≡ numbered ws (run reader ws)) → IfOk r (IsRead Term Part term_words term_part EndsTerm ws)

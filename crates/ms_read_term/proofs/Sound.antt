@@ -141,8 +141,8 @@ product_sound whole rest frames l p op h =
       before = record {
         pending_to = rest;
         pending = record { low_to = h.pending.low_to; sum_to = h.pending.sum_to; low_stands = h.pending.low_stands; sum_stands = h.pending.sum_stands; product_stands = product_closes l p q h.from h.to _ h.pending h.part e };
-        minuses = refl
-      }
+        minuses = refl;
+      };
     })
 
 sum_sound : (whole rest : List Word) (frames : List Frame) (l : Level) (p : Part) (op : SumSign) → AtPart frames l p whole (sign (kind_of_sum op) ∷ rest) → Sound whole (sign (kind_of_sum op) ∷ rest) rest (sum_pending frames l p op)
@@ -153,8 +153,8 @@ sum_sound whole rest frames l p op h =
       before = record {
         pending_to = rest;
         pending = record { low_to = h.pending.low_to; sum_to = rest; low_stands = h.pending.low_stands; sum_stands = sum_closes l p q h.from h.to _ h.pending h.part e; product_stands = refl };
-        minuses = refl
-      }
+        minuses = refl;
+      };
     })
 
 low_sound_in : (whole rest : List Word) (frames : List Frame) (l : Level) (p : Part) (b : Bool) → is_some l.low ≡ b → AtPart frames l p whole (sign DotDot ∷ rest) → Sound whole (sign DotDot ∷ rest) rest (low_pending_in b frames (closed_sum l p))
@@ -166,8 +166,8 @@ low_sound_in whole rest frames l p false low h =
       before = record {
         pending_to = rest;
         pending = record { low_to = rest; sum_to = rest; low_stands = subst (λ x. SpellsSum q x (sign DotDot ∷ rest)) (sym (nothing_low l.low h.from h.pending.low_to low h.pending.low_stands)) (sum_closes l p q h.from h.to _ h.pending h.part e); sum_stands = refl; product_stands = refl };
-        minuses = refl
-      }
+        minuses = refl;
+      };
     })
 
 comma_sound : (whole rest : List Word) (frames : List Frame) (f : Frame) (t : Part) (a b : List Word) → FramesStand frames whole a → FrameStands f a b → SpellsTerm t b (sign Comma ∷ rest) → Sound whole (sign Comma ∷ rest) rest (comma frames f t)
@@ -185,9 +185,9 @@ paren_sound whole rest frames f t a b stand h s =
 bar_sound : (whole rest : List Word) (frames : List Frame) (f : Frame) (t : Part) (a b : List Word) → FramesStand frames whole a → FrameStands f a b → SpellsSum t b (sign BarToken ∷ rest) → Sound whole (sign BarToken ∷ rest) rest (barred frames f t)
 bar_sound whole rest frames f t a b stand h s =
     made_sound whole (sign BarToken ∷ rest) rest _ (outside_of_bar f) (λ l e. made_sound whole (sign BarToken ∷ rest) rest _ (round Abs t) (λ q r.
-      let bar = bar_stands f.bracket f.outside l f.row h.bracket_from b h.bracket_stands e in
-      let before = subst (λ x. Before x a h.bracket_from) bar.1 h.before in
-      landed_sound whole (sign BarToken ∷ rest) rest frames l l.minuses q a before.pending_to h.bracket_from stand before.pending before.minuses (unary_of_primary q h.bracket_from rest (absolute_spelled t q h.bracket_from b rest bar.0 s r))))
+    let bar = bar_stands f.bracket f.outside l f.row h.bracket_from b h.bracket_stands e in
+    let before = subst (λ x. Before x a h.bracket_from) bar.1 h.before in
+    landed_sound whole (sign BarToken ∷ rest) rest frames l l.minuses q a before.pending_to h.bracket_from stand before.pending before.minuses (unary_of_primary q h.bracket_from rest (absolute_spelled t q h.bracket_from b rest bar.0 s r))))
 
 divided_sound : (whole rest : List Word) (frames : List Frame) (f : Frame) (is_interval : Bool) (t : Part) (w : Word) (a b : List Word) → FramesStand frames whole a → FrameStands f a b → SpellsTerm t b (w ∷ rest) → (is_interval ≡ false → SpellsSum t b (w ∷ rest)) → Sound whole (w ∷ rest) rest (divided frames f is_interval t (kind_of w))
 divided_sound whole rest frames f is_interval t (sign Comma) a b stand h s r = comma_sound whole rest frames f t a b stand h s

@@ -94,11 +94,7 @@ impl Bracket {
     }
 
     /// The bracket with the list that ends behind the bracket itself, a `;` or a `,`.
-    pub fn ended_bare(
-        self,
-        alloc: Global,
-        row: Option<Row>,
-    ) -> Result<Option<Bracket>, OutOfMemory>
+    pub fn ended_bare(self, alloc: Global, row: Option<Row>) -> Result<Option<Bracket>, OutOfMemory>
         ensures { IfOk result (λ made. made ≡ ended_bare self row) }
     {
         match self {

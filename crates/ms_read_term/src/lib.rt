@@ -8,18 +8,18 @@ ghost use Rattle.ms_grammar.specs.Words.{words_of};
 ghost use Rattle.ms_grammar.specs.Terms.{Term, term_words, term_part};
 ghost use Rattle.ms_grammar.specs.Reading.{EndsTerm, IsRead};
 
-mod level;
-mod make;
-mod row;
 mod bracket;
 mod frames;
-mod reader;
+mod level;
+mod make;
 mod number;
+mod reader;
+mod row;
 mod string;
 
+use crate::reader::Reader;
 pub use ms_base::memory::OutOfMemory;
 use ms_grammar::part::Part;
-use crate::reader::Reader;
 use ms_text::token::Token;
 use std::alloc::Global;
 

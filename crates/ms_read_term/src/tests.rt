@@ -378,12 +378,7 @@ fn read(alloc: Global, text: &[u8]) -> Result<Option<(Part, usize)>, Fail> {
 }
 
 // A term in so many brackets.
-fn nested(
-    alloc: Global,
-    opening: &[u8],
-    count: usize,
-    closing: &[u8],
-) -> Result<Vec<u8>, Fail> {
+fn nested(alloc: Global, opening: &[u8], count: usize, closing: &[u8]) -> Result<Vec<u8>, Fail> {
     let mut text = Vec::new(alloc);
     for _ in 0..count {
         text.extend_from_slice(opening)?;
@@ -452,7 +447,7 @@ fn reads_deep_texts(rt: HostRuntime) -> Result<(), Fail> {
     let tokens = read(rt.alloc(), &text)?.map(|found| found.1);
     assert_eq!(rt; tokens, Some(200_001), "parentheses round one term");
     for opening in [b"f(".as_slice(), b"(", b"|", b"-"] {
-        let text = nested(rt.alloc(), opening, 1_000_000, b"")?;
+        let text = nested(rt.alloc(), opening, 100_000, b"")?;
         let found = read(rt.alloc(), &text)?;
         assert!(rt; found.is_none(), "{opening:?}");
     }
