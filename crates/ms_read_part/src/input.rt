@@ -1,5 +1,5 @@
 // What is left to read.
-ghost use Rattle.std.specs.Prelude.{◌≡◌, ◌≢◌, ◌≤◌, List, length, drop, Some, true, false};
+ghost use Rattle.std.specs.Prelude.{◌≡◌, ◌≢◌, ◌≤◌, ◌-◌, List, length, drop, Some, true, false};
 ghost use Rattle.std.specs.Option.{option_map};
 ghost use Rattle.ms_text.specs.Tokens.{LieWithin};
 ghost use Rattle.ms_grammar.specs.Words.{Word, words_of};
@@ -118,5 +118,15 @@ impl<'a> Input<'a> {
             text,
             tokens: &tokens[len..],
         }
+    }
+}
+
+/// What was read of so many tokens, with the number of those that were read.
+pub(crate) fn with_len<T>(found: Option<(T, Input)>, len: usize) -> Option<(T, usize)>
+    ensures { result ≡ option_map (λ f. (f.0, len - length f.1)) found.entry }
+{
+    match found {
+        Some((value, rest)) => Some((value, len.saturating_sub(rest.len()))),
+        None => None,
     }
 }
