@@ -20,7 +20,7 @@ mod literal;
 mod part;
 mod term;
 
-use crate::input::{Input, with_len};
+use crate::input::{Input, ended};
 pub use ms_base::memory::OutOfMemory;
 use ms_grammar::part::Counted;
 use ms_grammar::statement::{BodyLit, Head};
@@ -39,7 +39,7 @@ pub fn read_atom(
     ensures { IfOk result (IsRead Atom (Counted TextTerm) atom_words atom_spelled EndsPart (words_of text.now tokens.now)) }
 {
     let found = term::read_atom(Input::new(alloc, text, tokens))?;
-    Ok(with_len(found, tokens.len()))
+    Ok(ended(found, tokens.len()))
 }
 
 /// The literal, set or aggregate of a body at the front of the tokens, with the number of its tokens, exactly
@@ -53,7 +53,7 @@ pub fn read_body_part(
     ensures { IfOk result (IsRead BodyPart (Counted BodyLit) body_part_words body_part_spelled EndsPart (words_of text.now tokens.now)) }
 {
     let found = part::read_part(Input::new(alloc, text, tokens))?;
-    Ok(with_len(found, tokens.len()))
+    Ok(ended(found, tokens.len()))
 }
 
 /// The head at the front of the tokens, with the number of its tokens, exactly where a front spells one and
@@ -67,5 +67,5 @@ pub fn read_head(
     ensures { IfOk result (IsRead HeadPart (Counted HeadForm) head_words head_spelled EndsPart (words_of text.now tokens.now)) }
 {
     let found = part::read_head_form(Input::new(alloc, text, tokens))?;
-    Ok(with_len(found, tokens.len()))
+    Ok(ended(found, tokens.len()))
 }
