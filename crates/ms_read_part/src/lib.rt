@@ -69,3 +69,6 @@ pub fn read_head(
     let found = part::read_head_form(Input::new(alloc, text, tokens))?;
     Ok(ended(found, tokens.len()))
 }
+
+#[cfg(test)]
+mod tests;
