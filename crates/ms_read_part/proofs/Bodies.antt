@@ -51,7 +51,7 @@ pub body_plain : (ws : List Word) (found : Result (Option (Counted BodyLit × Li
     → IfOk found (Reads PlainPart (Counted BodyLit) plain_words plain_spelled EndsPart ws) → IfOk found (Reads BodyPart (Counted BodyLit) body_part_words body_part_spelled EndsPart ws)
 body_plain ws found front read =
     IfOk-more (Reads PlainPart (Counted BodyLit) plain_words plain_spelled EndsPart ws) (Reads BodyPart (Counted BodyLit) body_part_words body_part_spelled EndsPart ws) found
-      (λ f r. Reads-same plain_to_body (body_to_plain ws front) r) read
+    (λ f r. Reads-same plain_to_body (body_to_plain ws front) r) read
 
 -- with `not`
 abbrev pub part_negation : Counted BodyLit → Option (Counted BodyLit)

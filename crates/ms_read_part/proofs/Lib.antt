@@ -13,3 +13,4 @@ pub mod Groups
 pub mod Tails
 pub mod Parts
 pub mod Bodies
+pub mod Measured

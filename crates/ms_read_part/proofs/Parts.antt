@@ -198,9 +198,9 @@ module _ (ws : List Word) where
   pub plain_unled : (found : Result (Option (Counted BodyLit × List Word)) OutOfMemory) → opens (front_kind ws) ≡ true → IfOk found (Reads (GroupPart × Option Guard) (Counted BodyLit) guarded_words unled_spelled EndsPart ws) → IfOk found (Reads PlainPart (Counted BodyLit) plain_words plain_spelled EndsPart ws)
   plain_unled found opened read =
       IfOk-more (Reads (GroupPart × Option Guard) (Counted BodyLit) guarded_words unled_spelled EndsPart ws) (Reads PlainPart (Counted BodyLit) plain_words plain_spelled EndsPart ws) found
-        (λ f r. Reads-same unled_to_plain (plain_to_unled opened) r) read
+      (λ f r. Reads-same unled_to_plain (plain_to_unled opened) r) read
 
   pub plain_led : (found : Result (Option (Counted BodyLit × List Word)) OutOfMemory) → opens (front_kind ws) ≡ false → IfOk found (Reads (Term × TailPart) (Counted BodyLit) led_words led_spelled EndsPart ws) → IfOk found (Reads PlainPart (Counted BodyLit) plain_words plain_spelled EndsPart ws)
   plain_led found closed read =
       IfOk-more (Reads (Term × TailPart) (Counted BodyLit) led_words led_spelled EndsPart ws) (Reads PlainPart (Counted BodyLit) plain_words plain_spelled EndsPart ws) found
-        (λ f r. Reads-same (λ d v e. led_to_plain_by d.0 d.1 v e) (plain_to_led closed) r) read
+      (λ f r. Reads-same (λ d v e. led_to_plain_by d.0 d.1 v e) (plain_to_led closed) r) read

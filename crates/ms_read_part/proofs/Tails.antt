@@ -108,7 +108,7 @@ module _ (ws : List Word) where
   pub tail_group : (found : Result (Option (Tail × List Word)) OutOfMemory) → opens (front_kind ws) ≡ true → IfOk found (Reads (GroupPart × Option Guard) Tail guarded_words (guarded_tail_spelled Le) EndsPart ws) → IfOk found (Reads TailPart Tail tail_words tail_spelled EndsPart ws)
   tail_group found opened read =
       IfOk-more (Reads (GroupPart × Option Guard) Tail guarded_words (guarded_tail_spelled Le) EndsPart ws) (Reads TailPart Tail tail_words tail_spelled EndsPart ws) found
-        (λ f r. Reads-same (λ d v e. record { derivation = guarded_tail None d; words_are = refl; spells = e }) (from_group opened) r) read
+      (λ f r. Reads-same (λ d v e. record { derivation = guarded_tail None d; words_are = refl; spells = e }) (from_group opened) r) read
 
   from_literal : opens (front_kind ws) ≡ false → cmp_at (front_kind ws) ≡ None → (p : TailPart) (rest : List Word) (v : Tail) → ws ≡ tail_words p ++ rest → EndsPart rest → tail_spelled p ≡ Some v
       → IsSpelled (Option (TokenKind × Term)) Tail comparison_words literal_tail_spelled (tail_words p) v
@@ -120,7 +120,7 @@ module _ (ws : List Word) where
   pub tail_literal : (found : Result (Option (Tail × List Word)) OutOfMemory) → opens (front_kind ws) ≡ false → cmp_at (front_kind ws) ≡ None → IfOk found (Reads (Option (TokenKind × Term)) Tail comparison_words literal_tail_spelled EndsPart ws) → IfOk found (Reads TailPart Tail tail_words tail_spelled EndsPart ws)
   tail_literal found closed none read =
       IfOk-more (Reads (Option (TokenKind × Term)) Tail comparison_words literal_tail_spelled EndsPart ws) (Reads TailPart Tail tail_words tail_spelled EndsPart ws) found
-        (λ f r. Reads-same (λ c v e. record { derivation = literal_tail c; words_are = refl; spells = e }) (from_literal closed none) r) read
+      (λ f r. Reads-same (λ c v e. record { derivation = literal_tail c; words_are = refl; spells = e }) (from_literal closed none) r) read
 
   module _ (cmp : Cmp) (at : cmp_at (front_kind ws) ≡ Some cmp) where
     second_is : (c : TokenKind × Term) (rest : List Word) → ws ≡ comparison_words (Some c) ++ rest → drop 1 ws ≡ term_words c.1 ++ rest
@@ -148,7 +148,7 @@ module _ (ws : List Word) where
     tail_signed found opened read =
         let k = cmp_front ws cmp at in
         IfOk-more (Reads (GroupPart × Option Guard) Tail guarded_words (guarded_tail_spelled cmp) EndsPart (drop 1 ws)) (Reads TailPart Tail tail_words tail_spelled EndsPart ws) found
-          (λ f r. Reads-same to_signed (from_signed opened) (Reads-sign k.0 k.3 r)) read
+        (λ f r. Reads-same to_signed (from_signed opened) (Reads-sign k.0 k.3 r)) read
 
     from_test : opens (front_kind (drop 1 ws)) ≡ false → (p : TailPart) (rest : List Word) (v : Tail) → ws ≡ tail_words p ++ rest → EndsPart rest → tail_spelled p ≡ Some v
         → IsSpelled (Option (TokenKind × Term)) Tail comparison_words literal_tail_spelled (tail_words p) v
@@ -160,7 +160,7 @@ module _ (ws : List Word) where
     pub tail_test : (found : Result (Option (Tail × List Word)) OutOfMemory) → opens (front_kind (drop 1 ws)) ≡ false → IfOk found (Reads (Option (TokenKind × Term)) Tail comparison_words literal_tail_spelled EndsPart ws) → IfOk found (Reads TailPart Tail tail_words tail_spelled EndsPart ws)
     tail_test found closed read =
         IfOk-more (Reads (Option (TokenKind × Term)) Tail comparison_words literal_tail_spelled EndsPart ws) (Reads TailPart Tail tail_words tail_spelled EndsPart ws) found
-          (λ f r. Reads-same (λ c v e. record { derivation = literal_tail c; words_are = refl; spells = e }) (from_test closed) r) read
+        (λ f r. Reads-same (λ c v e. record { derivation = literal_tail c; words_are = refl; spells = e }) (from_test closed) r) read
 
 -- a group with its comparison
 then-map : {T U : Type 0} (f : T → U) (o : Option T) → option_map f o ≡ option_and_then (λ x. Some (f x)) o
@@ -170,9 +170,9 @@ then-map f (Some x) = refl
 pub Reads-map : {D V U : Type 0} {w : D → List Word} {s : D → Option V} {E : List Word → Type 0} {ws : List Word} {found : Option (V × List Word)} (f : V → U) → Reads D V w s E ws found → Reads D U w (λ d. option_map f (s d)) E ws (mapped (λ v. Some (f v)) found)
 Reads-map {D} {V} {U} {w} {s} {E} {ws} {found} f read =
     Reads-same
-      (λ d v e. record { derivation = d; words_are = refl; spells = then-map f (s d) ∙ e })
-      (λ d rest v words_are ends e. record { derivation = d; words_are = refl; spells = sym (then-map f (s d)) ∙ e })
-      (Reads-mapped (λ v. Some (f v)) read)
+    (λ d v e. record { derivation = d; words_are = refl; spells = then-map f (s d) ∙ e })
+    (λ d rest v words_are ends e. record { derivation = d; words_are = refl; spells = sym (then-map f (s d)) ∙ e })
+    (Reads-mapped (λ v. Some (f v)) read)
 
 -- what may follow a term
 pub follows_tail : (p : TailPart) (v : Tail) (rest : List Word) → tail_spelled p ≡ Some v → EndsPart rest → EndsTerm (tail_words p ++ rest)
