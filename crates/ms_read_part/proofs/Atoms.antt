@@ -1,16 +1,15 @@
 -- An atom is a term that begins with a name and is a function.
-use Rattle.std.proofs.Common.{◌≡◌, ℕ, suc, Bool, true, false, cond, List, [], ◌∷◌, ◌++◌, max, Option, Some, None, refl, sym, ap, ◌∙◌, leb}
+use Rattle.std.proofs.Common.{◌≡◌, ℕ, Bool, true, false, cond, List, Option, Some, None, refl, sym, ◌∙◌}
 use Rattle.std.specs.Option.{option_map, option_and_then}
-use Rattle.ms_grammar.specs.declared.term.TextTerm.{TextTerm, Function, Interval, Binary}
+use Rattle.ms_grammar.specs.declared.term.TextTerm.{TextTerm}
 use Rattle.ms_grammar.specs.declared.part.Part.{Part}
 use Rattle.ms_grammar.specs.declared.part.Rows.{Rows}
 use Rattle.ms_grammar.specs.declared.part.Counted.{Counted}
 use Rattle.ms_grammar.specs.Words.{Word}
-use Rattle.ms_grammar.specs.Terms.{Term, single, interval, Sum, product, plus, minus, Product, unary, times, over, modulo, Unary, primary, negative, least, Primary, numeral, string, constant, function, parenthesis, absolute, Lists, term_words, term_part, sum_part, product_part, unary_part, primary_part, lists_rows, named, fitting, joined, both, counted}
+use Rattle.ms_grammar.specs.Terms.{Term, single, interval, product, plus, minus, unary, times, over, modulo, primary, constant, function, term_words, sum_part, product_part, unary_part, primary_part, lists_rows, named, joined, both}
 use Rattle.ms_grammar.specs.Statements.{Atom, plain, applied, atom_words, atom_spelled, as_atom}
 use Rattle.ms_grammar.specs.Reading.{EndsTerm}
 use Rattle.ms_read_part.specs.declared.term.Lead.{Lead}
-use Rattle.ms_read_part.specs.Kinds.{front_kind}
 use Rattle.ms_read_part.specs.Leads.{lead_spelled, is_function, atom_of}
 use Rattle.ms_read_part.specs.Cuts.{Reads}
 use Rattle.ms_read_part.proofs.Combined.{IsSpelled, Reads-same, Reads-mapped, mapped}

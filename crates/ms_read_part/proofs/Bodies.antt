@@ -1,10 +1,9 @@
 -- Parts of bodies with `not` and without, and heads.
-use Rattle.std.proofs.Common.{◌≡◌, ◌≢◌, ℕ, Bool, true, false, List, [], ◌∷◌, ◌++◌, drop, Option, Some, None, Result, IfOk, refl, sym, ap, ◌∙◌, append_assoc}
+use Rattle.std.proofs.Common.{◌≡◌, ◌≢◌, ℕ, true, false, List, ◌∷◌, ◌++◌, drop, Option, Some, None, Result, IfOk, refl, sym, ap, ◌∙◌}
+use Rattle.std.proofs.lemmas.Result.{IfOk-weaker}
 use Rattle.std.specs.Option.{option_map, option_and_then}
 use Rattle.ms_base.specs.declared.memory.OutOfMemory.{OutOfMemory}
-use Rattle.ms_text.specs.declared.token.TokenKind.{TokenKind}
-use Rattle.ms_text.specs.declared.token.TokenKind.TheVariants.{Not, Name}
-use Rattle.ms_grammar.specs.declared.term.TextTerm.{TextTerm}
+use Rattle.ms_text.specs.declared.token.TokenKind.TheVariants.{Not}
 use Rattle.ms_grammar.specs.declared.statement.TextLit.{TextLit}
 use Rattle.ms_grammar.specs.declared.statement.TextLit.TheVariants.{Positive, Negated, Test}
 use Rattle.ms_grammar.specs.declared.statement.TextSet.{TextSet}
@@ -15,14 +14,13 @@ use Rattle.ms_grammar.specs.declared.statement.Head.{Head}
 use Rattle.ms_grammar.specs.declared.statement.Head.TheVariants.{Empty, Atom as HeadAtom, Set as HeadSet}
 use Rattle.ms_grammar.specs.declared.part.Counted.{Counted}
 use Rattle.ms_grammar.specs.Words.{Word, sign}
-use Rattle.ms_grammar.specs.Terms.{Term, term_words}
-use Rattle.ms_grammar.specs.Statements.{atom_words, atom_spelled, term_spelled, cmp_of, join, Literal, positive, negated, test, literal_words, literal_spelled, alone, with_value, beside, Guard, left_words, Choice, choice_words, choice_spelled, Aggregate, aggregate_words, aggregate_spelled, BodyPart, literal, choice, aggregate, body_part_words, body_part_spelled, HeadPart, no_head, atom_head, choice_head, head_words, head_spelled}
+use Rattle.ms_grammar.specs.Statements.{atom_spelled, term_spelled, cmp_of, join, Literal, positive, negated, test, literal_words, literal_spelled, alone, with_value, beside, Guard, left_words, Choice, choice_words, choice_spelled, Aggregate, aggregate_words, aggregate_spelled, BodyPart, literal, choice, aggregate, body_part_words, body_part_spelled, HeadPart, no_head, atom_head, choice_head, head_words, head_spelled}
 use Rattle.ms_grammar.specs.Reading.{EndsPart}
-use Rattle.ms_read_part.specs.Kinds.{front_kind, ends_at, opens}
+use Rattle.ms_read_part.specs.Kinds.{front_kind, ends_at}
 use Rattle.ms_read_part.specs.Pieces.{negated_literal, counted_map, GroupPart, set_group, function_group, guarded_words, plain_literal_spelled, PlainPart, plain_literal, plain_choice, plain_aggregate, plain_words, plain_spelled, negated_part, head_from}
 use Rattle.ms_read_part.specs.Cuts.{Reads}
-use Rattle.ms_read_part.proofs.Combined.{IsSpelled, Reads-same, Reads-sign, Reads-mapped, mapped, and_then-some, map-some, both-some, some-parts, IfOk-more}
-use Rattle.ms_read_part.proofs.Fronts.{front-sign, begins_term, term_leads, begins-ends, atom_front, EndsPart-at}
+use Rattle.ms_read_part.proofs.Combined.{IsSpelled, Reads-same, Reads-sign, Reads-mapped, mapped, and_then-some, map-some, both-some, some-parts}
+use Rattle.ms_read_part.proofs.Fronts.{front-sign, term_leads, begins-ends, atom_front, EndsPart-at}
 use Rattle.ms_read_part.proofs.Literals.{plain_to_literal, literal_to_plain, positive_to_plain, to_negated, from_negated, negation}
 use Rattle.ms_read_part.proofs.Tails.{group_leads, opens-end}
 use Rattle.ms_read_part.proofs.Parts.{guard_term, guard_more, guard_is_term, group-words}
@@ -50,7 +48,7 @@ body_to_plain ws front (aggregate false a) rest v words_are ends e = record { de
 pub body_plain : (ws : List Word) (found : Result (Option (Counted BodyLit × List Word)) OutOfMemory) → front_kind ws ≢ Some Not
     → IfOk found (Reads PlainPart (Counted BodyLit) plain_words plain_spelled EndsPart ws) → IfOk found (Reads BodyPart (Counted BodyLit) body_part_words body_part_spelled EndsPart ws)
 body_plain ws found front read =
-    IfOk-more (Reads PlainPart (Counted BodyLit) plain_words plain_spelled EndsPart ws) (Reads BodyPart (Counted BodyLit) body_part_words body_part_spelled EndsPart ws) found
+    IfOk-weaker found (Reads PlainPart (Counted BodyLit) plain_words plain_spelled EndsPart ws) (Reads BodyPart (Counted BodyLit) body_part_words body_part_spelled EndsPart ws)
     (λ f r. Reads-same plain_to_body (body_to_plain ws front) r) read
 
 -- with `not`

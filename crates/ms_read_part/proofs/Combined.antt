@@ -1,19 +1,12 @@
 -- Readers put together from readers.
-use Rattle.std.proofs.Common.{◌≡◌, List, [], ◌∷◌, ◌++◌, drop, Option, Some, None, Result, Ok, Err, IfOk, refl, sym, ap, ◌∙◌, append_assoc}
+use Rattle.std.proofs.Common.{◌≡◌, List, ◌∷◌, ◌++◌, drop, Option, Some, None, refl, sym, ap, ◌∙◌, append_assoc}
+use Rattle.std.proofs.lemmas.Option.{IfSome_then}
 use Rattle.std.specs.Option.{option_map, option_and_then, IfSome}
 use Rattle.ms_text.specs.declared.token.TokenKind.{TokenKind}
 use Rattle.ms_grammar.specs.Words.{Word, sign}
 use Rattle.ms_grammar.specs.Terms.{both}
 use Rattle.ms_read_part.specs.Cuts.{IsCut, Reads}
 use Rattle.ms_read_part.specs.Pieces.{words_then, spelled_then}
-
-IfSome-more : {T : Type 0} (P Q : T → Type 0) (o : Option T) → ((x : T) → P x → Q x) → IfSome o P → IfSome o Q
-IfSome-more P Q None h p = tt
-IfSome-more P Q (Some x) h p = h x p
-
-pub IfOk-more : {T E : Type 0} (P Q : T → Type 0) (r : Result T E) → ((x : T) → P x → Q x) → IfOk r P → IfOk r Q
-IfOk-more P Q (Ok x) h p = h x p
-IfOk-more P Q (Err e) h p = tt
 
 pub some-parts : {T : Type 0} {a b : T} → Some a ≡ Some b → a ≡ b
 some-parts e = cc
@@ -44,7 +37,7 @@ module _ {A B V : Type 0} {wa : A → List Word} {wb : B → List Word} {sa : A 
       → ((b : B) (rest : List Word) (v : V) → ws ≡ wb b ++ rest → E rest → sb b ≡ Some v → IsSpelled A V wa sa (wb b) v)
       → Reads A V wa sa E ws found → Reads B V wb sb E ws found
   Reads-same {E} {ws} {found} to from read = record {
-    sound = IfSome-more (λ f. IsCut A V wa sa ws f.0 f.1) (λ f. IsCut B V wb sb ws f.0 f.1) found (λ f cut. IsCut-same to ws f.1 f.0 cut) read.sound;
+    sound = IfSome_then found {P = λ f. IsCut A V wa sa ws f.0 f.1} {Q = λ f. IsCut B V wb sb ws f.0 f.1} read.sound (λ f cut. IsCut-same to ws f.1 f.0 cut);
     complete = λ b rest v words_are ends spells.
         let a = from b rest v words_are ends spells in
         read.complete a.derivation rest v (words_are ∙ ap (λ x. x ++ rest) (sym a.words_are)) ends a.spells;
@@ -68,7 +61,7 @@ module _ {D V : Type 0} {w : D → List Word} {s : D → Option V} where
 
   pub Reads-sign : {E : List Word → Type 0} {ws : List Word} {found : Option (V × List Word)} (kind : TokenKind) → ws ≡ sign kind ∷ drop 1 ws → Reads D V w s E (drop 1 ws) found → Reads D V (λ d. sign kind ∷ w d) s E ws found
   Reads-sign {E} {ws} {found} kind is read = record {
-    sound = IfSome-more (λ f. IsCut D V w s (drop 1 ws) f.0 f.1) (λ f. IsCut D V (λ d. sign kind ∷ w d) s ws f.0 f.1) found (λ f cut. IsCut-sign kind ws f.1 f.0 is cut) read.sound;
+    sound = IfSome_then found {P = λ f. IsCut D V w s (drop 1 ws) f.0 f.1} {Q = λ f. IsCut D V (λ d. sign kind ∷ w d) s ws f.0 f.1} read.sound (λ f cut. IsCut-sign kind ws f.1 f.0 is cut);
     complete = λ d rest v words_are ends spells. read.complete d rest v (ap (drop 1) words_are) ends spells;
   }
 
@@ -104,6 +97,17 @@ Reads-mapped {D} {V} {U} {w} {s} {E} {ws} {found} f read = record {
       let v = and_then-some f (s d) u spells in
       ap (mapped f) (read.complete d rest v.0 words_are ends v.1) ∙ mapped-is f v.0 rest u v.2;
 }
+
+pub then-map : {T U : Type 0} (f : T → U) (o : Option T) → option_map f o ≡ option_and_then (λ x. Some (f x)) o
+then-map f None = refl
+then-map f (Some x) = refl
+
+pub Reads-map : {D V U : Type 0} {w : D → List Word} {s : D → Option V} {E : List Word → Type 0} {ws : List Word} {found : Option (V × List Word)} (f : V → U) → Reads D V w s E ws found → Reads D U w (λ d. option_map f (s d)) E ws (mapped (λ v. Some (f v)) found)
+Reads-map {D} {V} {U} {w} {s} {E} {ws} {found} f read =
+    Reads-same
+    (λ d v e. record { derivation = d; words_are = refl; spells = then-map f (s d) ∙ e })
+    (λ d rest v words_are ends e. record { derivation = d; words_are = refl; spells = sym (then-map f (s d)) ∙ e })
+    (Reads-mapped (λ v. Some (f v)) read)
 
 -- both parts are there
 pub both-some : {A B C : Type 0} (f : A → B → Option C) (a : Option A) (b : Option B) (c : C) → both f a b ≡ Some c → (x : A) × (y : B) × (a ≡ Some x) × (b ≡ Some y) × (f x y ≡ Some c)

@@ -1,5 +1,6 @@
 -- The conditions of elements at the front.
-use Rattle.std.proofs.Common.{◌≡◌, ◌≢◌, Bool, true, false, List, [], ◌∷◌, ◌++◌, drop, Option, Some, None, Result, IfOk, refl, sym, ap, ◌∙◌, append_assoc}
+use Rattle.std.proofs.Common.{◌≡◌, true, false, List, [], ◌∷◌, ◌++◌, drop, Option, Some, Result, IfOk, refl, ap, ◌∙◌, append_assoc}
+use Rattle.std.proofs.lemmas.Result.{IfOk-weaker}
 use Rattle.ms_base.specs.declared.memory.OutOfMemory.{OutOfMemory}
 use Rattle.ms_text.specs.declared.token.TokenKind.TheVariants.{Colon, Comma}
 use Rattle.ms_grammar.specs.declared.statement.TextLit.{TextLit}
@@ -11,8 +12,8 @@ use Rattle.ms_grammar.specs.Reading.{EndsTerm}
 use Rattle.ms_read_part.specs.Kinds.{front_kind, ends_element, EndsElement, EndsTuple}
 use Rattle.ms_read_part.specs.Pieces.{row_words, row_spelled}
 use Rattle.ms_read_part.specs.Cuts.{Reads}
-use Rattle.ms_read_part.proofs.Combined.{IsSpelled, Reads-same, Reads-sign, IfOk-more, some-parts}
-use Rattle.ms_read_part.proofs.Fronts.{front-sign, begins_term, term_leads, begins-element, atom_front, EndsElement-part, EndsElement-tuple, EndsTuple-term}
+use Rattle.ms_read_part.proofs.Combined.{IsSpelled, Reads-same, Reads-sign, some-parts}
+use Rattle.ms_read_part.proofs.Fronts.{front-sign, term_leads, begins-element, atom_front, EndsElement-tuple, EndsTuple-term}
 use Rattle.ms_read_part.proofs.Rowed.{after_first, row-words}
 
 -- a literal doesn't begin with what may follow an element
@@ -60,7 +61,7 @@ module _ (ws : List Word) (front : front_kind ws ≡ Some Colon) where
       → IfOk found (Reads (Literal × List Literal) (Counted (List TextLit)) (row_words (sign Comma) literal_words) (row_spelled literal_spelled) EndsElement (drop 1 ws))
       → IfOk found (Reads Conditions (Counted (List TextLit)) conditions_words conditions_spelled EndsElement ws)
   conditions_row found no_end row =
-      IfOk-more (Reads (Literal × List Literal) (Counted (List TextLit)) (row_words (sign Comma) literal_words) (row_spelled literal_spelled) EndsElement (drop 1 ws)) (Reads Conditions (Counted (List TextLit)) conditions_words conditions_spelled EndsElement ws) found
+      IfOk-weaker found (Reads (Literal × List Literal) (Counted (List TextLit)) (row_words (sign Comma) literal_words) (row_spelled literal_spelled) EndsElement (drop 1 ws)) (Reads Conditions (Counted (List TextLit)) conditions_words conditions_spelled EndsElement ws)
       (λ f r. Reads-same row_to_conditions (conditions_to_row no_end) (Reads-sign Colon (front-sign Colon ws refl front) r)) row
 
 -- conditions may follow an atom and a tuple

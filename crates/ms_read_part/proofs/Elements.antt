@@ -1,5 +1,6 @@
 -- Elements at the front.
-use Rattle.std.proofs.Common.{◌≡◌, ◌≢◌, Bool, true, false, List, [], ◌∷◌, ◌++◌, map, drop, Option, Some, None, Result, IfOk, refl, sym, ap, ◌∙◌, append_assoc}
+use Rattle.std.proofs.Common.{◌≡◌, ◌≢◌, List, [], ◌∷◌, ◌++◌, map, Option, Some, None, Result, IfOk, refl, sym, ap, ◌∙◌, append_assoc}
+use Rattle.std.proofs.lemmas.Result.{IfOk-weaker}
 use Rattle.std.specs.Option.{option_map, option_and_then}
 use Rattle.ms_base.specs.declared.memory.OutOfMemory.{OutOfMemory}
 use Rattle.ms_text.specs.declared.token.TokenKind.TheVariants.{Comma, Semicolon, RightBrace}
@@ -15,8 +16,8 @@ use Rattle.ms_grammar.specs.Reading.{EndsTerm}
 use Rattle.ms_read_part.specs.Kinds.{front_kind, EndsElement, EndsElements, EndsTuple}
 use Rattle.ms_read_part.specs.Pieces.{row_words, row_spelled}
 use Rattle.ms_read_part.specs.Cuts.{Reads}
-use Rattle.ms_read_part.proofs.Combined.{IsSpelled, Reads-same, Reads-mapped, Reads-then-none, Reads-then, mapped, behind, IfOk-more, some-parts}
-use Rattle.ms_read_part.proofs.Fronts.{begins_term, term_leads, atom_front}
+use Rattle.ms_read_part.proofs.Combined.{IsSpelled, Reads-same, Reads-mapped, Reads-then-none, Reads-then, mapped, behind, some-parts}
+use Rattle.ms_read_part.proofs.Fronts.{term_leads, atom_front}
 use Rattle.ms_read_part.proofs.Rowed.{after_first, row-words}
 use Rattle.ms_read_part.proofs.Conditions.{follows_conditions, follows_atom}
 
@@ -115,5 +116,5 @@ module _ (D T : Type 0) (w : D → List Word) (s : D → Option (Counted T)) (no
       → IfOk found (Reads (D × List D) (Counted (List T)) (row_words (sign Semicolon) w) (row_spelled s) EndsElements ws)
       → IfOk found (Reads (List D) (Counted (List T)) (λ ds. separated (sign Semicolon) (map w ds)) (row_of s) EndsElements ws)
   elements_row ws found front row =
-      IfOk-more (Reads (D × List D) (Counted (List T)) (row_words (sign Semicolon) w) (row_spelled s) EndsElements ws) (Reads (List D) (Counted (List T)) (λ ds. separated (sign Semicolon) (map w ds)) (row_of s) EndsElements ws) found
+      IfOk-weaker found (Reads (D × List D) (Counted (List T)) (row_words (sign Semicolon) w) (row_spelled s) EndsElements ws) (Reads (List D) (Counted (List T)) (λ ds. separated (sign Semicolon) (map w ds)) (row_of s) EndsElements ws)
       (λ f r. Reads-same (λ d v e. record { derivation = d.0 ∷ d.1; words_are = refl; spells = e }) (elements_to_row ws front) r) row

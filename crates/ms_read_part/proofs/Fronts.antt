@@ -1,14 +1,14 @@
 -- How words begin.
-use Rattle.std.proofs.Common.{◌≡◌, Bool, true, false, List, [], ◌∷◌, ◌++◌, drop, Option, Some, None, refl, sym, ap, ◌∙◌, append_assoc, append-nil}
+use Rattle.std.proofs.Common.{◌≡◌, Bool, true, false, List, [], ◌∷◌, ◌++◌, drop, Option, Some, None, refl, ap, ◌∙◌, append_assoc, append-nil}
 use Rattle.ms_text.specs.declared.token.TokenKind.{TokenKind}
-use Rattle.ms_text.specs.declared.token.TokenKind.TheVariants.{Name, Not, Number, Text, LeftParen, Bar, Minus, Comma, Semicolon, Colon, If, Dot, LeftBrace, RightBrace, Count, Sum as SumKind, Equal, EqualEqual, NotEqual, LessGreater, Less, LessEqual, Greater, GreaterEqual}
+use Rattle.ms_text.specs.declared.token.TokenKind.TheVariants.{Name, Number, Text, LeftParen, Bar, Minus, Comma, Semicolon, Colon, If, Dot, RightBrace, Equal, EqualEqual, NotEqual, LessGreater, Less, LessEqual, Greater, GreaterEqual}
 use Rattle.ms_grammar.specs.Words.{Word, name, number, quoted, sign}
 use Rattle.ms_grammar.specs.Terms.{Term, single, interval, Sum, product, plus, minus, Product, unary, times, over, modulo, Unary, primary, negative, least, Primary, numeral, string, constant, function, parenthesis, absolute, term_words, sum_words, product_words, unary_words, primary_words}
 use Rattle.ms_grammar.specs.declared.statement.Cmp.{Cmp}
 use Rattle.ms_grammar.specs.Statements.{Atom, plain, applied, atom_words, cmp_of}
 use Rattle.ms_grammar.specs.Reading.{EndsTerm, EndsPart, carries_on, ends_part}
 use Rattle.ms_read_part.proofs.Combined.{and_then-some}
-use Rattle.ms_read_part.specs.Kinds.{kind_of, front_kind, cmp_at, ends_at, ends_element, ends_tuple, opened_by, EndsElement, EndsTuple}
+use Rattle.ms_read_part.specs.Kinds.{front_kind, cmp_at, ends_at, ends_element, ends_tuple, EndsElement, EndsTuple}
 
 abbrev pub is_sign : TokenKind → Bool
 is_sign Name = false
@@ -78,15 +78,6 @@ begins-ends (Some LeftParen) h = refl
 begins-ends (Some Bar) h = refl
 begins-ends (Some Minus) h = refl
 begins-ends _ h = absurd (let false' : ⊥ = cc in false')
-
-pub begins-opens : (front : Option TokenKind) → begins_term front ≡ true → opened_by front ≡ None
-begins-opens (Some Name) h = refl
-begins-opens (Some Number) h = refl
-begins-opens (Some Text) h = refl
-begins-opens (Some LeftParen) h = refl
-begins-opens (Some Bar) h = refl
-begins-opens (Some Minus) h = refl
-begins-opens _ h = absurd (let false' : ⊥ = cc in false')
 
 pub begins-cmp : (front : Option TokenKind) → begins_term front ≡ true → cmp_at front ≡ None
 begins-cmp (Some Name) h = refl

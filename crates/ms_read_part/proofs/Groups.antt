@@ -1,7 +1,8 @@
 -- Sets and aggregates at the front, from their braces on.
-use Rattle.std.proofs.Common.{◌≡◌, ◌≢◌, Bool, true, false, List, [], ◌∷◌, ◌++◌, map, drop, Option, Some, None, Result, IfOk, refl, sym, ap, ◌∙◌, append_assoc}
+use Rattle.std.proofs.Common.{◌≡◌, Bool, true, false, List, [], ◌∷◌, ◌++◌, drop, Option, Some, None, Result, IfOk, refl, sym, ap, ◌∙◌, append_assoc}
 use Rattle.std.specs.Bool.{⊤}
-use Rattle.std.specs.Option.{option_map, option_and_then, IfSome}
+use Rattle.std.proofs.lemmas.Result.{IfOk-weaker}
+use Rattle.std.specs.Option.{option_and_then, IfSome}
 use Rattle.ms_base.specs.declared.memory.OutOfMemory.{OutOfMemory}
 use Rattle.ms_text.specs.declared.token.TokenKind.{TokenKind}
 use Rattle.ms_text.specs.declared.token.TokenKind.TheVariants.{LeftBrace, RightBrace, Count as CountKind, Sum as SumKind}
@@ -14,19 +15,18 @@ use Rattle.ms_grammar.specs.declared.statement.TextGuard.{TextGuard}
 use Rattle.ms_grammar.specs.declared.part.Counted.{Counted}
 use Rattle.ms_grammar.specs.Words.{Word, sign}
 use Rattle.ms_grammar.specs.Terms.{Term, term_words, both}
-use Rattle.ms_grammar.specs.Statements.{alone, with_value, beside, join, term_spelled, cmp_of, Guard, bare, signed, right_words, guard_spelled, function_kind, SetPart, TuplePart}
+use Rattle.ms_grammar.specs.Statements.{alone, with_value, beside, join, cmp_of, Guard, bare, signed, right_words, guard_spelled, function_kind, SetPart, TuplePart}
 use Rattle.ms_grammar.specs.Reading.{EndsTerm, EndsPart}
-use Rattle.ms_read_part.specs.declared.kinds.Opening.{Opening}
 use Rattle.ms_read_part.specs.declared.kinds.Opening.TheVariants.{Set as SetOpening, Aggregate}
 use Rattle.ms_read_part.specs.declared.group.Group.{Group}
 use Rattle.ms_read_part.specs.Kinds.{front_kind, cmp_at, ends_at, opened_by, is_right_brace, EndsElements}
 use Rattle.ms_read_part.specs.Pieces.{bound_spelled, in_braces, closed_by, set_words, set_spelled, tuples_words, aggregate_group_spelled, GroupPart, set_group, function_group, group_words, group_spelled, guarded_words, guarded_spelled}
 use Rattle.ms_read_part.specs.Cuts.{IsCut, Reads}
-use Rattle.ms_read_part.proofs.Combined.{IsSpelled, Reads-same, Reads-ends, Reads-sign, Reads-mapped, Reads-then-none, Reads-then, mapped, behind, and_then-some, IfOk-more, some-parts, found-parts}
-use Rattle.ms_read_part.proofs.Fronts.{is_sign, front-sign, begins_term, term_leads, begins-ends, begins-cmp, cmp-ends, cmp_front, cmp_not_end, EndsPart-at, EndsPart-term}
+use Rattle.ms_read_part.proofs.Combined.{IsSpelled, Reads-same, Reads-ends, Reads-sign, Reads-mapped, Reads-then, mapped, behind, and_then-some, some-parts, found-parts}
+use Rattle.ms_read_part.proofs.Fronts.{is_sign, front-sign, term_leads, begins-ends, begins-cmp, cmp-ends, cmp_front, cmp_not_end, EndsPart-at, EndsPart-term}
 
 -- guards behind a brace
-abbrev guarding : Cmp → Counted TextTerm → Counted (Option TextGuard)
+abbrev pub guarding : Cmp → Counted TextTerm → Counted (Option TextGuard)
 guarding cmp t = with_value (λ bound. Some (record { cmp = cmp; bound = bound })) t
 
 term_not_end : (t : Term) (rest ws : List Word) → ends_at (front_kind ws) ≡ true → ws ≡ term_words t ++ rest → ⊥
@@ -81,7 +81,7 @@ module _ (ws : List Word) where
         → IfOk found (Reads (Option Guard) (Counted (Option TextGuard)) right_words guard_spelled EndsPart ws)
     guard_signed found bound =
         let k = cmp_front ws cmp at in
-        IfOk-more (Reads Term (Counted (Option TextGuard)) term_words (bound_spelled cmp) EndsTerm (drop 1 ws)) (Reads (Option Guard) (Counted (Option TextGuard)) right_words guard_spelled EndsPart ws) found
+        IfOk-weaker found (Reads Term (Counted (Option TextGuard)) term_words (bound_spelled cmp) EndsTerm (drop 1 ws)) (Reads (Option Guard) (Counted (Option TextGuard)) right_words guard_spelled EndsPart ws)
         (λ f r. Reads-same to_signed from_signed (Reads-sign k.0 k.3 (Reads-ends EndsPart-term r))) bound
 
   from_bare : ends_at (front_kind ws) ≡ false → cmp_at (front_kind ws) ≡ None → (g : Option Guard) (rest : List Word) (v : Counted (Option TextGuard)) → ws ≡ right_words g ++ rest → EndsPart rest → guard_spelled g ≡ Some v
@@ -99,7 +99,7 @@ module _ (ws : List Word) where
   pub guard_bare : (found : Result (Option (Counted (Option TextGuard) × List Word)) OutOfMemory) → ends_at (front_kind ws) ≡ false → cmp_at (front_kind ws) ≡ None
       → IfOk found (Reads Term (Counted (Option TextGuard)) term_words (bound_spelled Le) EndsTerm ws) → IfOk found (Reads (Option Guard) (Counted (Option TextGuard)) right_words guard_spelled EndsPart ws)
   guard_bare found no_end no_cmp bound =
-      IfOk-more (Reads Term (Counted (Option TextGuard)) term_words (bound_spelled Le) EndsTerm ws) (Reads (Option Guard) (Counted (Option TextGuard)) right_words guard_spelled EndsPart ws) found
+      IfOk-weaker found (Reads Term (Counted (Option TextGuard)) term_words (bound_spelled Le) EndsTerm ws) (Reads (Option Guard) (Counted (Option TextGuard)) right_words guard_spelled EndsPart ws)
       (λ f r. Reads-same (λ t v e. record { derivation = Some (bare t); words_are = refl; spells = e }) (from_bare no_end no_cmp) (Reads-ends EndsPart-term r)) bound
 
 -- what stands in braces
@@ -161,7 +161,7 @@ module _ (ws : List Word) where
 
   pub group_set : (found : Result (Option (Counted Group × List Word)) OutOfMemory) → opened_by (front_kind ws) ≡ Some SetOpening → IfOk found (Reads (List SetPart) (Counted Group) set_words set_spelled (λ ws. ⊤) ws) → IfOk found (Reads GroupPart (Counted Group) group_words group_spelled (λ ws. ⊤) ws)
   group_set found opened read =
-      IfOk-more (Reads (List SetPart) (Counted Group) set_words set_spelled Anything ws) (Reads GroupPart (Counted Group) group_words group_spelled Anything ws) found
+      IfOk-weaker found (Reads (List SetPart) (Counted Group) set_words set_spelled Anything ws) (Reads GroupPart (Counted Group) group_words group_spelled Anything ws)
       (λ f r. Reads-same (λ es v e. record { derivation = set_group es; words_are = refl; spells = e }) (λ g rest v words_are ends e. from_set opened g rest v words_are e) r) read
 
   from_function : (of : AggFn) → opened_by (front_kind ws) ≡ Some (Aggregate of) → (g : GroupPart) (rest : List Word) (v : Counted Group) → ws ≡ group_words g ++ rest → group_spelled g ≡ Some v
@@ -178,7 +178,7 @@ module _ (ws : List Word) where
       → IfOk found (Reads GroupPart (Counted Group) group_words group_spelled (λ ws. ⊤) ws)
   group_function of found opened read =
       let is = front-sign (function_kind of) ws (function-sign of) (opened-function (front_kind ws) of opened) in
-      IfOk-more (Reads (List TuplePart) (Counted Group) tuples_words (aggregate_group_spelled of) Anything (drop 1 ws)) (Reads GroupPart (Counted Group) group_words group_spelled Anything ws) found
+      IfOk-weaker found (Reads (List TuplePart) (Counted Group) tuples_words (aggregate_group_spelled of) Anything (drop 1 ws)) (Reads GroupPart (Counted Group) group_words group_spelled Anything ws)
       (λ f r. Reads-same (λ es v e. record { derivation = function_group of es; words_are = refl; spells = e }) (λ g rest v words_are ends e. from_function of opened g rest v words_are e) (Reads-sign (function_kind of) is r)) read
 
 -- a group with its right guard

@@ -1,22 +1,21 @@
 -- Terms and atoms at the front.
-use Rattle.std.proofs.Common.{◌≡◌, ◌≢◌, ℕ, ◌≤◌, Bool, true, false, List, [], ◌∷◌, ◌++◌, length, take, drop, Option, Some, None, refl, sym, ap, ◌∙◌, append-nil, take-append-drop}
+use Rattle.std.proofs.Common.{◌≡◌, ◌≢◌, ℕ, Bool, true, false, List, ◌++◌, length, drop, Option, Some, None, refl, sym, ap, ◌∙◌, take-append-drop}
 use Rattle.std.proofs.Math.Seq.{drop-append_seam}
 use Rattle.std.specs.Option.{option_map, option_and_then, IfSome}
 use Rattle.ms_grammar.specs.declared.term.TextTerm.{TextTerm}
 use Rattle.ms_grammar.specs.declared.part.Part.{Part}
-use Rattle.ms_grammar.specs.declared.part.Rows.{Rows}
 use Rattle.ms_grammar.specs.declared.part.Counted.{Counted}
 use Rattle.ms_text.specs.declared.token.TokenKind.{TokenKind}
 use Rattle.ms_text.specs.declared.token.TokenKind.TheVariants.{Name}
-use Rattle.ms_grammar.specs.Words.{Word, name, sign}
-use Rattle.ms_grammar.specs.Terms.{Term, single, interval, Sum, product, plus, minus, Product, unary, times, over, modulo, Unary, primary, negative, least, Primary, numeral, string, constant, function, parenthesis, absolute, Lists, term_words, term_part, sum_part, product_part, unary_part, primary_part, lists_rows, named, fitting}
-use Rattle.ms_grammar.specs.Statements.{Atom, plain, applied, atom_words, atom_spelled, as_atom, bounded, term_spelled}
+use Rattle.ms_grammar.specs.Words.{Word}
+use Rattle.ms_grammar.specs.Terms.{Term, term_words, term_part}
+use Rattle.ms_grammar.specs.Statements.{bounded, term_spelled}
 use Rattle.ms_grammar.specs.Reading.{IsFront, IsRead, EndsTerm}
 use Rattle.ms_read_part.specs.declared.term.Lead.{Lead}
 use Rattle.ms_read_part.specs.Kinds.{front_kind}
-use Rattle.ms_read_part.specs.Leads.{is_name, lead_spelled, is_function, atom_of}
+use Rattle.ms_read_part.specs.Leads.{is_name, lead_spelled}
 use Rattle.ms_read_part.specs.Cuts.{IsCut, Reads}
-use Rattle.ms_read_part.proofs.Combined.{IsSpelled, Reads-same, Reads-mapped, mapped, map-some, and_then-some, found-parts}
+use Rattle.ms_read_part.proofs.Combined.{Reads-same, Reads-mapped, mapped, map-some}
 use Rattle.ms_read_part.proofs.Fronts.{term_front}
 
 -- what is left behind the words that are read
@@ -42,10 +41,6 @@ Reads-cut {D} {V} {w} {s} {E} {ws} {found} read = record {
       let rest_is : drop (length (w d)) ws ≡ rest = rw words_are (drop-append_seam (w d) rest) in
       ap (cut ws) (read.complete d rest v words_are ends spells) ∙ ap (λ r. Some (v, r)) rest_is;
 }
-
--- a term of a front is within the words
-pub read_within : {D V : Type 0} {w : D → List Word} {s : D → Option V} {E : List Word → Type 0} {ws : List Word} {v : V} {n : ℕ} → IsRead D V w s E ws (Some (v, n)) → n ≤ length ws
-read_within read = read.sound.within
 
 abbrev pub lead_from : Bool → Part → Lead
 lead_from b part = record { part = part; named = b }
@@ -76,9 +71,6 @@ Reads-led {ws} {found} read = record {
 }
 
 -- `read_lead`
-pub lead_none : {ws : List Word} → IsRead Term Part term_words term_part EndsTerm ws None → Reads Term Lead term_words lead_spelled EndsTerm ws None
-lead_none read = Reads-led (Reads-cut read)
-
 pub lead_some : {ws words : List Word} {part : Part} {n : ℕ} (b : Bool) (rest : List Word) → IsRead Term Part term_words term_part EndsTerm words (Some (part, n)) → words ≡ ws → b ≡ is_name (front_kind ws) → rest ≡ drop n ws
     → Reads Term Lead term_words lead_spelled EndsTerm ws (Some (record { part = part; named = b }, rest))
 lead_some {ws} {words} {part} {n} b rest read same b_is rest_is = rw (b_is, rest_is) (Reads-led (Reads-cut (rw same at read)))

@@ -1,5 +1,6 @@
 -- Literals at the front.
-use Rattle.std.proofs.Common.{◌≡◌, ◌≢◌, Bool, true, false, List, [], ◌∷◌, ◌++◌, drop, Option, Some, None, Result, IfOk, refl, sym, ap, ◌∙◌, append_assoc, append-nil}
+use Rattle.std.proofs.Common.{◌≡◌, ◌≢◌, Bool, List, ◌∷◌, ◌++◌, drop, Option, Some, None, Result, IfOk, refl, sym, ap, ◌∙◌, append_assoc, append-nil}
+use Rattle.std.proofs.lemmas.Result.{IfOk-weaker}
 use Rattle.std.specs.Option.{option_map, option_and_then}
 use Rattle.ms_base.specs.declared.memory.OutOfMemory.{OutOfMemory}
 use Rattle.ms_text.specs.declared.token.TokenKind.{TokenKind}
@@ -17,18 +18,14 @@ use Rattle.ms_grammar.specs.Reading.{EndsTerm, EndsPart}
 use Rattle.ms_read_part.specs.declared.term.Lead.{Lead}
 use Rattle.ms_read_part.specs.Kinds.{front_kind, cmp_at}
 use Rattle.ms_read_part.specs.Leads.{is_name, lead_spelled, atom_of}
-use Rattle.ms_read_part.specs.Pieces.{comparison_words, comparison_spelled, literal_of, plain_literal_words, plain_literal_spelled, negated_literal, counted_map, spelled_then}
+use Rattle.ms_read_part.specs.Pieces.{comparison_words, comparison_spelled, literal_of, plain_literal_words, plain_literal_spelled, negated_literal, counted_map}
 use Rattle.ms_read_part.specs.Cuts.{Reads}
-use Rattle.ms_read_part.proofs.Combined.{IsSpelled, Reads-same, Reads-ends, Reads-sign, Reads-mapped, Reads-then-none, Reads-then, mapped, behind, and_then-some, map-some, both-some, some-parts, IfOk-more}
-use Rattle.ms_read_part.proofs.Fronts.{front-sign, begins_term, term_leads, atom_front, cmp-carries, cmp_front, cmp_not_end, EndsPart-term}
+use Rattle.ms_read_part.proofs.Combined.{then-map, IsSpelled, Reads-same, Reads-ends, Reads-sign, Reads-mapped, Reads-then-none, Reads-then, mapped, behind, and_then-some, map-some, both-some, some-parts}
+use Rattle.ms_read_part.proofs.Fronts.{front-sign, term_leads, atom_front, cmp-carries, cmp_front, cmp_not_end, EndsPart-term}
 use Rattle.ms_read_part.proofs.Leads.{lead_from}
 use Rattle.ms_read_part.proofs.Atoms.{term_to_atom, atom_to_term}
 
 -- a comparison, with the term behind it
-then-map : {T U : Type 0} (f : T → U) (o : Option T) → option_map f o ≡ option_and_then (λ x. Some (f x)) o
-then-map f None = refl
-then-map f (Some x) = refl
-
 abbrev compared : Cmp → Counted TextTerm → Option (Option (Cmp × Counted TextTerm))
 compared cmp right = Some (Some (cmp, right))
 
@@ -162,7 +159,7 @@ pub literal_plain : (ws : List Word) (found : Result (Option (Counted TextLit ×
     → IfOk found (Reads (Term × Option (TokenKind × Term)) (Counted TextLit) plain_literal_words plain_literal_spelled EndsPart ws)
     → IfOk found (Reads Literal (Counted TextLit) literal_words literal_spelled EndsPart ws)
 literal_plain ws found front read =
-    IfOk-more (Reads (Term × Option (TokenKind × Term)) (Counted TextLit) plain_literal_words plain_literal_spelled EndsPart ws) (Reads Literal (Counted TextLit) literal_words literal_spelled EndsPart ws) found
+    IfOk-weaker found (Reads (Term × Option (TokenKind × Term)) (Counted TextLit) plain_literal_words plain_literal_spelled EndsPart ws) (Reads Literal (Counted TextLit) literal_words literal_spelled EndsPart ws)
     (λ f r. Reads-same plain_to_literal (literal_to_plain ws front) r) read
 
 -- with `not` in front

@@ -1,13 +1,13 @@
 -- Parts of bodies without `not`.
-use Rattle.std.proofs.Common.{◌≡◌, ◌≢◌, Bool, true, false, List, [], ◌∷◌, ◌++◌, map, drop, Option, Some, None, Result, IfOk, refl, sym, ap, ◌∙◌, append_assoc}
+use Rattle.std.proofs.Common.{◌≡◌, Bool, true, false, List, [], ◌∷◌, ◌++◌, map, Option, Some, None, Result, IfOk, refl, sym, ap, ◌∙◌, append_assoc}
+use Rattle.std.proofs.lemmas.Result.{IfOk-weaker}
 use Rattle.std.specs.Option.{option_map, option_and_then}
 use Rattle.ms_base.specs.declared.memory.OutOfMemory.{OutOfMemory}
 use Rattle.ms_text.specs.declared.token.TokenKind.{TokenKind}
-use Rattle.ms_text.specs.declared.token.TokenKind.TheVariants.{Not, LeftBrace, RightBrace, Semicolon}
+use Rattle.ms_text.specs.declared.token.TokenKind.TheVariants.{LeftBrace, RightBrace, Semicolon}
 use Rattle.ms_grammar.specs.declared.term.TextTerm.{TextTerm}
 use Rattle.ms_grammar.specs.declared.statement.Cmp.{Cmp}
 use Rattle.ms_grammar.specs.declared.statement.AggFn.{AggFn}
-use Rattle.ms_grammar.specs.declared.statement.TextLit.{TextLit}
 use Rattle.ms_grammar.specs.declared.statement.TextGuard.{TextGuard}
 use Rattle.ms_grammar.specs.declared.statement.SetElement.{SetElement}
 use Rattle.ms_grammar.specs.declared.statement.AggElement.{AggElement}
@@ -17,7 +17,7 @@ use Rattle.ms_grammar.specs.declared.part.Part.{Part}
 use Rattle.ms_grammar.specs.declared.part.Counted.{Counted}
 use Rattle.ms_grammar.specs.Words.{Word, sign, separated}
 use Rattle.ms_grammar.specs.Terms.{Term, term_words, term_part, both}
-use Rattle.ms_grammar.specs.Statements.{alone, with_value, beside, join, row_of, bounded, term_spelled, cmp_of, SetPart, set_part_words, set_part_spelled, TuplePart, tuple_part_words, tuple_part_spelled, Guard, bare, signed, left_words, right_words, guard_spelled, function_kind, set_from, aggregate_from, Choice, choice_words, choice_spelled, Aggregate, aggregate_words, aggregate_spelled}
+use Rattle.ms_grammar.specs.Statements.{alone, with_value, join, row_of, bounded, term_spelled, set_part_words, set_part_spelled, tuple_part_words, tuple_part_spelled, Guard, bare, signed, left_words, right_words, guard_spelled, function_kind, set_from, aggregate_from}
 use Rattle.ms_grammar.specs.Reading.{EndsTerm, EndsPart}
 use Rattle.ms_read_part.specs.declared.term.Lead.{Lead}
 use Rattle.ms_read_part.specs.declared.group.Group.{Group}
@@ -26,11 +26,12 @@ use Rattle.ms_read_part.specs.declared.part.Tail.{Tail}
 use Rattle.ms_read_part.specs.declared.part.Tail.TheVariants.{Literal, Guarded}
 use Rattle.ms_read_part.specs.Kinds.{front_kind, opens}
 use Rattle.ms_read_part.specs.Leads.{is_name, lead_spelled}
-use Rattle.ms_read_part.specs.Pieces.{comparison_words, comparison_spelled, plain_literal_words, plain_literal_spelled, bound_spelled, GroupPart, set_group, function_group, guarded_words, guarded_spelled, TailPart, literal_tail, guarded_tail, sign_words, guard_cmp, tail_words, tail_spelled, with_left, part_of, unled_spelled, led_words, led_spelled, PlainPart, plain_literal, plain_choice, plain_aggregate, plain_words, plain_spelled}
+use Rattle.ms_read_part.specs.Pieces.{comparison_words, comparison_spelled, plain_literal_spelled, GroupPart, set_group, function_group, guarded_words, guarded_spelled, TailPart, literal_tail, guarded_tail, guard_cmp, tail_words, tail_spelled, with_left, part_of, unled_spelled, led_words, led_spelled, PlainPart, plain_literal, plain_choice, plain_aggregate, plain_words, plain_spelled}
 use Rattle.ms_read_part.specs.Cuts.{Reads}
-use Rattle.ms_read_part.proofs.Combined.{IsSpelled, Reads-same, Reads-mapped, Reads-then-none, Reads-then, mapped, behind, IfOk-more}
+use Rattle.ms_read_part.proofs.Combined.{IsSpelled, Reads-same, Reads-mapped, Reads-then-none, Reads-then, mapped, behind}
 use Rattle.ms_read_part.proofs.Leads.{lead_from}
 use Rattle.ms_read_part.proofs.Literals.{literal_from}
+use Rattle.ms_read_part.proofs.Groups.{guarding}
 use Rattle.ms_read_part.proofs.Tails.{group_leads, opens_no_term, true_false, follows_tail}
 
 -- a part that begins with a term
@@ -92,9 +93,6 @@ unled_to_plain d v e = record {
 abbrev guard_of : Term → Option TokenKind → Guard
 guard_of t None = bare t
 guard_of t (Some kind) = signed t kind
-
-abbrev guarding : Cmp → Counted TextTerm → Counted (Option TextGuard)
-guarding cmp t = with_value (λ bound. Some (record { cmp = cmp; bound = bound })) t
 
 guard-same : (t : Term) (kind : Option TokenKind) → guard_spelled (Some (guard_of t kind)) ≡ option_and_then (λ cmp. option_map (guarding cmp) (term_spelled t)) (guard_cmp kind)
 guard-same t None = refl
@@ -197,10 +195,10 @@ module _ (ws : List Word) where
   -- `read_plain_part`
   pub plain_unled : (found : Result (Option (Counted BodyLit × List Word)) OutOfMemory) → opens (front_kind ws) ≡ true → IfOk found (Reads (GroupPart × Option Guard) (Counted BodyLit) guarded_words unled_spelled EndsPart ws) → IfOk found (Reads PlainPart (Counted BodyLit) plain_words plain_spelled EndsPart ws)
   plain_unled found opened read =
-      IfOk-more (Reads (GroupPart × Option Guard) (Counted BodyLit) guarded_words unled_spelled EndsPart ws) (Reads PlainPart (Counted BodyLit) plain_words plain_spelled EndsPart ws) found
+      IfOk-weaker found (Reads (GroupPart × Option Guard) (Counted BodyLit) guarded_words unled_spelled EndsPart ws) (Reads PlainPart (Counted BodyLit) plain_words plain_spelled EndsPart ws)
       (λ f r. Reads-same unled_to_plain (plain_to_unled opened) r) read
 
   pub plain_led : (found : Result (Option (Counted BodyLit × List Word)) OutOfMemory) → opens (front_kind ws) ≡ false → IfOk found (Reads (Term × TailPart) (Counted BodyLit) led_words led_spelled EndsPart ws) → IfOk found (Reads PlainPart (Counted BodyLit) plain_words plain_spelled EndsPart ws)
   plain_led found closed read =
-      IfOk-more (Reads (Term × TailPart) (Counted BodyLit) led_words led_spelled EndsPart ws) (Reads PlainPart (Counted BodyLit) plain_words plain_spelled EndsPart ws) found
+      IfOk-weaker found (Reads (Term × TailPart) (Counted BodyLit) led_words led_spelled EndsPart ws) (Reads PlainPart (Counted BodyLit) plain_words plain_spelled EndsPart ws)
       (λ f r. Reads-same (λ d v e. led_to_plain_by d.0 d.1 v e) (plain_to_led closed) r) read

@@ -1,9 +1,9 @@
 -- Readers of rows: one part or more, with a sign between each two.
-use Rattle.std.proofs.Common.{◌≡◌, ◌≢◌, ◌<◌, ◌+◌, ℕ, List, [], ◌∷◌, ◌++◌, map, length, drop, Option, Some, None, refl, sym, ap, ◌∙◌, subst, arith, append_assoc, length-append}
+use Rattle.std.proofs.Common.{◌≡◌, ◌≢◌, ◌<◌, ◌+◌, List, [], ◌∷◌, ◌++◌, length, drop, Option, Some, None, refl, sym, ap, ◌∙◌, subst, arith, append_assoc, length-append}
 use Rattle.std.specs.Option.{option_map, IfSome}
 use Rattle.ms_text.specs.declared.token.TokenKind.{TokenKind}
 use Rattle.ms_grammar.specs.declared.part.Counted.{Counted}
-use Rattle.ms_grammar.specs.Words.{Word, sign, separated}
+use Rattle.ms_grammar.specs.Words.{Word, sign}
 use Rattle.ms_grammar.specs.Statements.{alone, row_of}
 use Rattle.ms_read_part.specs.Kinds.{front_kind}
 use Rattle.ms_read_part.specs.Cuts.{IsCut, Reads}

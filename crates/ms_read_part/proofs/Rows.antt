@@ -1,5 +1,5 @@
 -- What separates and ends the rows of the grammar.
-use Rattle.std.proofs.Common.{◌≡◌, refl, ap}
+use Rattle.std.proofs.Common.{refl, ap}
 use Rattle.ms_text.specs.declared.token.TokenKind.TheVariants.{Comma, Semicolon}
 use Rattle.ms_grammar.specs.Reading.{EndsTerm, EndsPart}
 use Rattle.ms_read_part.specs.Kinds.{ends_element, EndsElement, EndsElements, EndsTuple}

@@ -1,26 +1,25 @@
 -- What stands behind a term at the front of a part.
-use Rattle.std.proofs.Common.{◌≡◌, ◌≢◌, Bool, true, false, List, [], ◌∷◌, ◌++◌, drop, Option, Some, None, Result, IfOk, refl, sym, ap, ◌∙◌, append_assoc}
+use Rattle.std.proofs.Common.{◌≡◌, Bool, true, false, List, ◌∷◌, ◌++◌, drop, Option, Some, None, Result, IfOk, refl, sym, ap, ◌∙◌}
+use Rattle.std.proofs.lemmas.Result.{IfOk-weaker}
 use Rattle.std.specs.Option.{option_map, option_and_then}
 use Rattle.ms_base.specs.declared.memory.OutOfMemory.{OutOfMemory}
 use Rattle.ms_text.specs.declared.token.TokenKind.{TokenKind}
-use Rattle.ms_text.specs.declared.token.TokenKind.TheVariants.{Equal, EqualEqual, NotEqual, LessGreater, Less, LessEqual, Greater, GreaterEqual, LeftBrace, Count as CountKind, Sum as SumKind}
-use Rattle.ms_grammar.specs.declared.term.TextTerm.{TextTerm}
+use Rattle.ms_text.specs.declared.token.TokenKind.TheVariants.{LeftBrace, Count as CountKind, Sum as SumKind}
 use Rattle.ms_grammar.specs.declared.statement.Cmp.{Cmp}
 use Rattle.ms_grammar.specs.declared.statement.Cmp.TheVariants.{Le}
 use Rattle.ms_grammar.specs.declared.statement.AggFn.{AggFn}
 use Rattle.ms_grammar.specs.declared.statement.AggFn.TheVariants.{Count, Sum}
-use Rattle.ms_grammar.specs.declared.part.Counted.{Counted}
 use Rattle.ms_grammar.specs.Words.{Word, sign}
 use Rattle.ms_grammar.specs.Terms.{Term, term_words}
-use Rattle.ms_grammar.specs.Statements.{term_spelled, cmp_of, Guard, right_words, function_kind}
+use Rattle.ms_grammar.specs.Statements.{term_spelled, cmp_of, Guard, function_kind}
 use Rattle.ms_grammar.specs.Reading.{EndsTerm, EndsPart, carries_on}
 use Rattle.ms_read_part.specs.declared.part.Tail.{Tail}
-use Rattle.ms_read_part.specs.declared.part.Tail.TheVariants.{Literal, Guarded}
+use Rattle.ms_read_part.specs.declared.part.Tail.TheVariants.{Literal}
 use Rattle.ms_read_part.specs.Kinds.{front_kind, cmp_at, ends_at, opens}
-use Rattle.ms_read_part.specs.Pieces.{comparison_words, comparison_spelled, GroupPart, set_group, function_group, group_words, guarded_words, guarded_spelled, TailPart, literal_tail, guarded_tail, guard_cmp, literal_tail_spelled, guarded_tail_spelled, tail_words, tail_spelled}
+use Rattle.ms_read_part.specs.Pieces.{comparison_words, comparison_spelled, GroupPart, set_group, function_group, guarded_words, TailPart, literal_tail, guarded_tail, literal_tail_spelled, guarded_tail_spelled, tail_words, tail_spelled}
 use Rattle.ms_read_part.specs.Cuts.{Reads}
-use Rattle.ms_read_part.proofs.Combined.{IsSpelled, Reads-same, Reads-ends, Reads-sign, Reads-mapped, mapped, and_then-some, map-some, IfOk-more}
-use Rattle.ms_read_part.proofs.Fronts.{front-sign, begins_term, term_leads, cmp-carries, cmp_front, cmp_not_end, EndsPart-at, EndsPart-term}
+use Rattle.ms_read_part.proofs.Combined.{IsSpelled, Reads-same, Reads-sign, and_then-some, map-some}
+use Rattle.ms_read_part.proofs.Fronts.{begins_term, term_leads, cmp-carries, cmp_front, cmp_not_end, EndsPart-at}
 use Rattle.ms_read_part.proofs.Literals.{follows_comparison}
 
 -- What opens a group is nothing else.
@@ -107,7 +106,7 @@ module _ (ws : List Word) where
   -- a group
   pub tail_group : (found : Result (Option (Tail × List Word)) OutOfMemory) → opens (front_kind ws) ≡ true → IfOk found (Reads (GroupPart × Option Guard) Tail guarded_words (guarded_tail_spelled Le) EndsPart ws) → IfOk found (Reads TailPart Tail tail_words tail_spelled EndsPart ws)
   tail_group found opened read =
-      IfOk-more (Reads (GroupPart × Option Guard) Tail guarded_words (guarded_tail_spelled Le) EndsPart ws) (Reads TailPart Tail tail_words tail_spelled EndsPart ws) found
+      IfOk-weaker found (Reads (GroupPart × Option Guard) Tail guarded_words (guarded_tail_spelled Le) EndsPart ws) (Reads TailPart Tail tail_words tail_spelled EndsPart ws)
       (λ f r. Reads-same (λ d v e. record { derivation = guarded_tail None d; words_are = refl; spells = e }) (from_group opened) r) read
 
   from_literal : opens (front_kind ws) ≡ false → cmp_at (front_kind ws) ≡ None → (p : TailPart) (rest : List Word) (v : Tail) → ws ≡ tail_words p ++ rest → EndsPart rest → tail_spelled p ≡ Some v
@@ -119,7 +118,7 @@ module _ (ws : List Word) where
   -- no comparison, and no group
   pub tail_literal : (found : Result (Option (Tail × List Word)) OutOfMemory) → opens (front_kind ws) ≡ false → cmp_at (front_kind ws) ≡ None → IfOk found (Reads (Option (TokenKind × Term)) Tail comparison_words literal_tail_spelled EndsPart ws) → IfOk found (Reads TailPart Tail tail_words tail_spelled EndsPart ws)
   tail_literal found closed none read =
-      IfOk-more (Reads (Option (TokenKind × Term)) Tail comparison_words literal_tail_spelled EndsPart ws) (Reads TailPart Tail tail_words tail_spelled EndsPart ws) found
+      IfOk-weaker found (Reads (Option (TokenKind × Term)) Tail comparison_words literal_tail_spelled EndsPart ws) (Reads TailPart Tail tail_words tail_spelled EndsPart ws)
       (λ f r. Reads-same (λ c v e. record { derivation = literal_tail c; words_are = refl; spells = e }) (from_literal closed none) r) read
 
   module _ (cmp : Cmp) (at : cmp_at (front_kind ws) ≡ Some cmp) where
@@ -147,7 +146,7 @@ module _ (ws : List Word) where
     pub tail_signed : (found : Result (Option (Tail × List Word)) OutOfMemory) → opens (front_kind (drop 1 ws)) ≡ true → IfOk found (Reads (GroupPart × Option Guard) Tail guarded_words (guarded_tail_spelled cmp) EndsPart (drop 1 ws)) → IfOk found (Reads TailPart Tail tail_words tail_spelled EndsPart ws)
     tail_signed found opened read =
         let k = cmp_front ws cmp at in
-        IfOk-more (Reads (GroupPart × Option Guard) Tail guarded_words (guarded_tail_spelled cmp) EndsPart (drop 1 ws)) (Reads TailPart Tail tail_words tail_spelled EndsPart ws) found
+        IfOk-weaker found (Reads (GroupPart × Option Guard) Tail guarded_words (guarded_tail_spelled cmp) EndsPart (drop 1 ws)) (Reads TailPart Tail tail_words tail_spelled EndsPart ws)
         (λ f r. Reads-same to_signed (from_signed opened) (Reads-sign k.0 k.3 r)) read
 
     from_test : opens (front_kind (drop 1 ws)) ≡ false → (p : TailPart) (rest : List Word) (v : Tail) → ws ≡ tail_words p ++ rest → EndsPart rest → tail_spelled p ≡ Some v
@@ -159,20 +158,8 @@ module _ (ws : List Word) where
     -- a comparison with a term behind it
     pub tail_test : (found : Result (Option (Tail × List Word)) OutOfMemory) → opens (front_kind (drop 1 ws)) ≡ false → IfOk found (Reads (Option (TokenKind × Term)) Tail comparison_words literal_tail_spelled EndsPart ws) → IfOk found (Reads TailPart Tail tail_words tail_spelled EndsPart ws)
     tail_test found closed read =
-        IfOk-more (Reads (Option (TokenKind × Term)) Tail comparison_words literal_tail_spelled EndsPart ws) (Reads TailPart Tail tail_words tail_spelled EndsPart ws) found
+        IfOk-weaker found (Reads (Option (TokenKind × Term)) Tail comparison_words literal_tail_spelled EndsPart ws) (Reads TailPart Tail tail_words tail_spelled EndsPart ws)
         (λ f r. Reads-same (λ c v e. record { derivation = literal_tail c; words_are = refl; spells = e }) (from_test closed) r) read
-
--- a group with its comparison
-then-map : {T U : Type 0} (f : T → U) (o : Option T) → option_map f o ≡ option_and_then (λ x. Some (f x)) o
-then-map f None = refl
-then-map f (Some x) = refl
-
-pub Reads-map : {D V U : Type 0} {w : D → List Word} {s : D → Option V} {E : List Word → Type 0} {ws : List Word} {found : Option (V × List Word)} (f : V → U) → Reads D V w s E ws found → Reads D U w (λ d. option_map f (s d)) E ws (mapped (λ v. Some (f v)) found)
-Reads-map {D} {V} {U} {w} {s} {E} {ws} {found} f read =
-    Reads-same
-    (λ d v e. record { derivation = d; words_are = refl; spells = then-map f (s d) ∙ e })
-    (λ d rest v words_are ends e. record { derivation = d; words_are = refl; spells = sym (then-map f (s d)) ∙ e })
-    (Reads-mapped (λ v. Some (f v)) read)
 
 -- what may follow a term
 pub follows_tail : (p : TailPart) (v : Tail) (rest : List Word) → tail_spelled p ≡ Some v → EndsPart rest → EndsTerm (tail_words p ++ rest)

@@ -4,7 +4,6 @@ use Rattle.std.specs.Option.{option_map}
 use Rattle.ms_text.specs.declared.token.TokenKind.{TokenKind}
 use Rattle.ms_text.specs.declared.token.TokenKind.TheVariants.{Name}
 use Rattle.ms_grammar.specs.declared.term.TextTerm.{TextTerm, Function'}
-use Rattle.ms_grammar.specs.declared.part.Part.{Part}
 use Rattle.ms_grammar.specs.declared.part.Counted.{Counted}
 use Rattle.ms_grammar.specs.Terms.{Term, term_words, term_part}
 use Rattle.ms_grammar.specs.Statements.{as_atom}

@@ -1,8 +1,8 @@
 -- Lines of the grammar between those of statements.
-use Rattle.std.specs.Prelude.{Bool, true, false, if◌then◌else◌, List, [], ◌∷◌, ◌++◌, map, drop, Option, Some, None}
+use Rattle.std.specs.Prelude.{true, false, if◌then◌else◌, List, [], ◌∷◌, ◌++◌, map, drop, Option, Some, None}
 use Rattle.std.specs.Option.{option_map, option_and_then}
 use Rattle.ms_text.specs.declared.token.TokenKind.{TokenKind}
-use Rattle.ms_text.specs.declared.token.TokenKind.TheVariants.{Not, Semicolon, LeftBrace, RightBrace}
+use Rattle.ms_text.specs.declared.token.TokenKind.TheVariants.{Semicolon, LeftBrace, RightBrace}
 use Rattle.ms_grammar.specs.declared.term.TextTerm.{TextTerm}
 use Rattle.ms_grammar.specs.declared.statement.Cmp.{Cmp}
 use Rattle.ms_grammar.specs.declared.statement.Cmp.TheVariants.{Le}
@@ -10,8 +10,6 @@ use Rattle.ms_grammar.specs.declared.statement.AggFn.{AggFn}
 use Rattle.ms_grammar.specs.declared.statement.TextLit.{TextLit}
 use Rattle.ms_grammar.specs.declared.statement.TextLit.TheVariants.{Positive, Negated, Test}
 use Rattle.ms_grammar.specs.declared.statement.TextGuard.{TextGuard}
-use Rattle.ms_grammar.specs.declared.statement.SetElement.{SetElement}
-use Rattle.ms_grammar.specs.declared.statement.AggElement.{AggElement}
 use Rattle.ms_grammar.specs.declared.statement.Head.{Head}
 use Rattle.ms_grammar.specs.declared.statement.Head.TheVariants.{Atom as HeadAtom, Set as HeadSet}
 use Rattle.ms_grammar.specs.declared.statement.BodyLit.{BodyLit}

@@ -175,7 +175,7 @@ const BODY_PARTS: &[Found] = &[
     Found {
         message: "pools in elements are copies of these, and those in guards are choices",
         text: b"(1;2) != #count{(3;4);(5;6):7=(8;9);0} == (1;2;3)",
-        tokens: 36,
+        tokens: 38,
         choices: 6,
         elements: 6,
         shown: "Agg { negated: false, agg: TextAgg { function: Count, left: Some(TextGuard { cmp: Ne, bound: Pool(Items { items: [Number(1), Number(2)] }) }), elements: Seq { items: [AggElement { tuple: Items { items: [Pool(Items { items: [Number(3), Number(4)] })] }, conds: Seq { items: [] } }, AggElement { tuple: Items { items: [Pool(Items { items: [Number(5), Number(6)] })] }, conds: Seq { items: [Test { left: Number(7), cmp: Eq, right: Pool(Items { items: [Number(8), Number(9)] }) }] } }, AggElement { tuple: Items { items: [Number(0)] }, conds: Seq { items: [] } }] }, right: Some(TextGuard { cmp: Eq, bound: Pool(Items { items: [Number(1), Number(2), Number(3)] }) }) } }",

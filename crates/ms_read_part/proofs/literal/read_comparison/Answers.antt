@@ -1,5 +1,4 @@
-use Rattle.std.proofs.Common.{◌∙◌, ap, sym}
-use Rattle.ms_read_part.specs.Kinds.{cmp_at}
+use Rattle.std.proofs.Common.{◌∙◌, sym}
 use Rattle.ms_read_part.proofs.Literals.{comparison_some}
 use Rattle.ms_read_part.proofs.literal.read_comparison.Goals as goal
 

@@ -1,4 +1,3 @@
-use Rattle.std.proofs.Common.{refl, ap, sym, ◌∙◌}
 use Rattle.ms_read_part.proofs.Literals.{literal_plain, literal_negated}
 use Rattle.ms_read_part.proofs.literal.read_literal.Goals as goal
 

@@ -1,5 +1,5 @@
 use Rattle.ms_read_part.specs.declared.part.Tail.TheVariants.{Guarded}
-use Rattle.ms_read_part.proofs.Tails.{Reads-map}
+use Rattle.ms_read_part.proofs.Combined.{Reads-map}
 use Rattle.ms_read_part.proofs.part.read_guarded_tail.Goals as goal
 
 pub returns : goal.returns

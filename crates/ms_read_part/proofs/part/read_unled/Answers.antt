@@ -1,7 +1,7 @@
 use Rattle.std.proofs.Common.{None, ap, ◌∙◌}
 use Rattle.ms_grammar.specs.Statements.{alone}
 use Rattle.ms_read_part.specs.Pieces.{with_left}
-use Rattle.ms_read_part.proofs.Tails.{Reads-map}
+use Rattle.ms_read_part.proofs.Combined.{Reads-map}
 use Rattle.ms_read_part.proofs.part.read_unled.Goals as goal
 
 pub returns : goal.returns

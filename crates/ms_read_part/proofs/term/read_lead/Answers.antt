@@ -1,4 +1,3 @@
-use Rattle.std.proofs.Common.{◌∙◌, ap, drop}
 use Rattle.ms_read_part.proofs.Leads.{lead_some, named_is}
 use Rattle.ms_read_part.proofs.term.read_lead.Goals as goal
 
