@@ -1,12 +1,12 @@
 -- How the premises of an analysis are kept along a search: reasons, and one decision a level.
-use Rattle.std.proofs.Common.{ℕ, ◌≡◌, ◌<◌, ◌≤◌, ◌⊎◌, inl, inr, List, [], ◌∷◌, ◌++◌, ◌+◌, Option, Some, None, length, get_or, take, drop, sym, ◌∙◌, ap, subst, arith}
+use Rattle.std.proofs.Common.{ℕ, ◌≡◌, ◌<◌, ◌⊎◌, inl, inr, List, [], ◌∷◌, ◌++◌, ◌+◌, Option, Some, None, length, get_or, take, drop, sym, ◌∙◌, ap, subst, arith}
 use Rattle.std.proofs.lemmas.Bool.{cases_eq, cases_lt}
 use Rattle.std.proofs.lemmas.List.{length-append, take-append-drop, take-append-le, take_at}
 use Rattle.std.proofs.Math.ListN.{get_or-append}
 use Rattle.std.proofs.Math.Seq.{get_or-append_seam}
 use Rattle.ms_lits.specs.declared.trail.Entry.{Entry}
 use Rattle.ms_lits.specs.Assignment.{Assignment, IsAssignment}
-use Rattle.ms_nogood.specs.Store.{Store, Stored, Adds, awake_in, nogood_at, slot_at}
+use Rattle.ms_nogood.specs.Store.{Store, Stored, Adds, awake_in, nogood_at}
 use Rattle.ms_nogood.specs.Propagation.{IsForced, Propagates}
 use Rattle.ms_analyze.specs.Analysis.{AreReasoned, IsOnlyDecision}
 
