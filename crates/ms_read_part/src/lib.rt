@@ -52,7 +52,7 @@ pub fn read_body_part(
     requires { LieWithin (length text.now) tokens.now }
     ensures { IfOk result (IsRead BodyPart (Counted BodyLit) body_part_words body_part_spelled EndsPart (words_of text.now tokens.now)) }
 {
-    let found = part::read_part(Input::new(alloc, text, tokens))?;
+    let found = part::read_body_part(Input::new(alloc, text, tokens))?;
     Ok(ended(found, tokens.len()))
 }
 
@@ -66,7 +66,7 @@ pub fn read_head(
     requires { LieWithin (length text.now) tokens.now }
     ensures { IfOk result (IsRead HeadPart (Counted HeadForm) head_words head_spelled EndsPart (words_of text.now tokens.now)) }
 {
-    let found = part::read_head_form(Input::new(alloc, text, tokens))?;
+    let found = part::read_head(Input::new(alloc, text, tokens))?;
     Ok(ended(found, tokens.len()))
 }
 

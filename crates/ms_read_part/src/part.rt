@@ -159,7 +159,7 @@ fn read_led<'a>(input: Input<'a>) -> Found<'a, Counted<BodyLit>>
 }
 
 /// The part of a body at the front.
-pub(crate) fn read_part<'a>(input: Input<'a>) -> Found<'a, Counted<BodyLit>>
+pub(crate) fn read_body_part<'a>(input: Input<'a>) -> Found<'a, Counted<BodyLit>>
     ensures { IfOk result (Reads BodyPart (Counted BodyLit) body_part_words body_part_spelled EndsPart input.entry) }
 {
     if !input.begins_with(TokenKind::Not) {
@@ -198,7 +198,7 @@ fn negated(part: BodyLit) -> Option<BodyLit>
 }
 
 /// The head at the front.
-pub(crate) fn read_head_form<'a>(input: Input<'a>) -> Found<'a, Counted<Head>>
+pub(crate) fn read_head<'a>(input: Input<'a>) -> Found<'a, Counted<Head>>
     ensures { IfOk result (Reads HeadPart (Counted HeadForm) head_words head_spelled EndsPart input.entry) }
 {
     if ends_at(input.front()) {

@@ -1,5 +1,5 @@
 use Rattle.ms_read_part.proofs.Bodies.{body_plain, body_negated}
-use Rattle.ms_read_part.proofs.part.read_part.Goals as goal
+use Rattle.ms_read_part.proofs.part.read_body_part.Goals as goal
 
 pub returns-then-not-begins_with : goal.returns-then-not-begins_with
 returns-then-not-begins_with c = body_plain _ _ (c.begins_with.ensures.is_not c.if-not-begins_with.true) c.read_plain_part.ensures

@@ -1,6 +1,6 @@
 use Rattle.std.proofs.Common.{sym, ◌∙◌}
 use Rattle.ms_read_part.proofs.Bodies.{head_end, head_plain}
-use Rattle.ms_read_part.proofs.part.read_head_form.Goals as goal
+use Rattle.ms_read_part.proofs.part.read_head.Goals as goal
 
 pub returns-then-ends_at : goal.returns-then-ends_at
 returns-then-ends_at c =
