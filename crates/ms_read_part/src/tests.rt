@@ -1,9 +1,8 @@
 use crate::{read_atom, read_body_part, read_head};
 use ms_grammar::part::Counted;
-use ms_grammar::statement::{BodyLit, Head};
-use ms_grammar::term::TextTerm;
 use ms_lex::lex;
 use std::alloc::Global;
+use std::fmt::Debug;
 use std::test::Fail;
 
 /// A text with a part at its front: the number of that part's tokens, its choices and copies of elements, and
@@ -323,37 +322,57 @@ const NO_HEADS: &[Refused] = &[
     },
 ];
 
-fn atom(alloc: Global, text: &[u8]) -> Result<Option<(Counted<TextTerm>, usize)>, Fail> {
-    let tokens = lex(alloc, text).ok().ok_or("the text has no tokens")?;
-    Ok(read_atom(alloc, text, tokens.as_slice())?)
+/// What was found: how many tokens, choices and copies of elements it has, and how it is shown.
+#[derive(Drop)]
+struct Seen {
+    counts: (usize, u32, u32),
+    shown: String,
 }
 
-fn body_part(alloc: Global, text: &[u8]) -> Result<Option<(Counted<BodyLit>, usize)>, Fail> {
-    let tokens = lex(alloc, text).ok().ok_or("the text has no tokens")?;
-    Ok(read_body_part(alloc, text, tokens.as_slice())?)
+fn as_seen<T: Debug + Drop>(
+    alloc: Global,
+    found: Option<(Counted<T>, usize)>,
+) -> Result<Option<Seen>, Fail> {
+    let Some((part, tokens)) = found else {
+        return Ok(None);
+    };
+    let shown = format!(in alloc; "{:?}", part.value)?;
+    Ok(Some(Seen {
+        counts: (tokens, part.choices, part.elements),
+        shown,
+    }))
 }
 
-fn head(alloc: Global, text: &[u8]) -> Result<Option<(Counted<Head>, usize)>, Fail> {
+fn atom(alloc: Global, text: &[u8]) -> Result<Option<Seen>, Fail> {
     let tokens = lex(alloc, text).ok().ok_or("the text has no tokens")?;
-    Ok(read_head(alloc, text, tokens.as_slice())?)
+    as_seen(alloc, read_atom(alloc, text, tokens.as_slice())?)
+}
+
+fn body_part(alloc: Global, text: &[u8]) -> Result<Option<Seen>, Fail> {
+    let tokens = lex(alloc, text).ok().ok_or("the text has no tokens")?;
+    as_seen(alloc, read_body_part(alloc, text, tokens.as_slice())?)
+}
+
+fn head(alloc: Global, text: &[u8]) -> Result<Option<Seen>, Fail> {
+    let tokens = lex(alloc, text).ok().ok_or("the text has no tokens")?;
+    as_seen(alloc, read_head(alloc, text, tokens.as_slice())?)
 }
 
 #[test]
 fn finds_atoms(rt: HostRuntime) -> Result<(), Fail> {
     for row in ATOMS {
-        let (part, tokens) = atom(rt.alloc(), row.text)?.ok_or(row.message)?;
-        let shown = format!(in rt.alloc(); "{:?}", part.value)?;
-        let counts = (tokens, part.choices, part.elements);
+        let seen = atom(rt.alloc(), row.text)?.ok_or(row.message)?;
         assert_eq!(rt;
-            counts,
+            seen.counts,
             (row.tokens, row.choices, row.elements),
             "at {}",
             row.message
         );
-        assert_eq!(rt; shown.as_str(), row.shown, "at {}", row.message);
+        assert_eq!(rt; seen.shown.as_str(), row.shown, "at {}", row.message);
     }
     for row in NO_ATOMS {
-        assert!(rt; atom(rt.alloc(), row.text)?.is_none(), "at {}", row.message);
+        let found = atom(rt.alloc(), row.text)?;
+        assert!(rt; found.is_none(), "at {}", row.message);
     }
     Ok(())
 }
@@ -361,23 +380,18 @@ fn finds_atoms(rt: HostRuntime) -> Result<(), Fail> {
 #[test]
 fn finds_body_parts(rt: HostRuntime) -> Result<(), Fail> {
     for row in BODY_PARTS {
-        let (part, tokens) = body_part(rt.alloc(), row.text)?.ok_or(row.message)?;
-        let shown = format!(in rt.alloc(); "{:?}", part.value)?;
-        let counts = (tokens, part.choices, part.elements);
+        let seen = body_part(rt.alloc(), row.text)?.ok_or(row.message)?;
         assert_eq!(rt;
-            counts,
+            seen.counts,
             (row.tokens, row.choices, row.elements),
             "at {}",
             row.message
         );
-        assert_eq!(rt; shown.as_str(), row.shown, "at {}", row.message);
+        assert_eq!(rt; seen.shown.as_str(), row.shown, "at {}", row.message);
     }
     for row in NO_BODY_PARTS {
-        assert!(rt;
-            body_part(rt.alloc(), row.text)?.is_none(),
-            "at {}",
-            row.message
-        );
+        let found = body_part(rt.alloc(), row.text)?;
+        assert!(rt; found.is_none(), "at {}", row.message);
     }
     Ok(())
 }
@@ -385,19 +399,18 @@ fn finds_body_parts(rt: HostRuntime) -> Result<(), Fail> {
 #[test]
 fn finds_heads(rt: HostRuntime) -> Result<(), Fail> {
     for row in HEADS {
-        let (part, tokens) = head(rt.alloc(), row.text)?.ok_or(row.message)?;
-        let shown = format!(in rt.alloc(); "{:?}", part.value)?;
-        let counts = (tokens, part.choices, part.elements);
+        let seen = head(rt.alloc(), row.text)?.ok_or(row.message)?;
         assert_eq!(rt;
-            counts,
+            seen.counts,
             (row.tokens, row.choices, row.elements),
             "at {}",
             row.message
         );
-        assert_eq!(rt; shown.as_str(), row.shown, "at {}", row.message);
+        assert_eq!(rt; seen.shown.as_str(), row.shown, "at {}", row.message);
     }
     for row in NO_HEADS {
-        assert!(rt; head(rt.alloc(), row.text)?.is_none(), "at {}", row.message);
+        let found = head(rt.alloc(), row.text)?;
+        assert!(rt; found.is_none(), "at {}", row.message);
     }
     Ok(())
 }
@@ -441,7 +454,7 @@ fn keeps_limits(rt: HostRuntime) -> Result<(), Fail> {
         text.extend_from_slice(b";a(1;2)")?;
     }
     text.push(b'}')?;
-    let elements = body_part(rt.alloc(), &text)?.map(|found| found.0.elements);
+    let elements = body_part(rt.alloc(), &text)?.map(|seen| seen.counts.2);
     assert_eq!(rt; elements, Some(10_001), "copies of many elements");
     Ok(())
 }
