@@ -206,6 +206,67 @@ fn scripts_have_their_replies(rt: HostRuntime) -> Result<(), Fail> {
     Ok(())
 }
 
+/// A fact whose one argument stands in so many brackets.
+#[derive(Clone, Copy)]
+struct Nested<'a> {
+    opening: &'a str,
+    count: usize,
+    middle: &'a str,
+    closing: &'a str,
+}
+
+fn nested_script(alloc: Global, nested: Nested) -> Result<Vec<u8>, Fail> {
+    let mut script = b"@add\np(".to_vec(alloc)?;
+    for _ in 0..nested.count {
+        script.extend_from_slice(nested.opening.as_bytes())?;
+    }
+    script.extend_from_slice(nested.middle.as_bytes())?;
+    for _ in 0..nested.count {
+        script.extend_from_slice(nested.closing.as_bytes())?;
+    }
+    script.extend_from_slice(b").\n@end\n")?;
+    Ok(script)
+}
+
+#[test]
+fn brackets_may_be_deep(rt: HostRuntime) -> Result<(), Fail> {
+    let rows = [
+        ("parentheses", "(", 10_000, "b", ")", "added 1\n"),
+        ("functions", "f(", 199, "1", ")", "added 1\n"),
+        (
+            "a function too many",
+            "f(",
+            200,
+            "1",
+            ")",
+            "refused syntax 1\n",
+        ),
+        ("minuses", "-", 199, "1", "", "added 1\n"),
+        ("a minus too many", "-", 200, "1", "", "refused syntax 1\n"),
+        (
+            "open parentheses",
+            "(",
+            10_000,
+            "b",
+            "",
+            "refused syntax 1\n",
+        ),
+        ("open bars", "|", 10_000, "b", "", "refused syntax 1\n"),
+    ];
+    for (name, opening, count, middle, closing, replies) in rows {
+        let nested = Nested {
+            opening,
+            count,
+            middle,
+            closing,
+        };
+        let script = nested_script(rt.alloc(), nested)?;
+        let outcome = call(rt.alloc(), &["run"], script.as_slice(), &[], &[], ROOM)?;
+        assert_eq!(rt; outcome.written.as_slice(), replies.as_bytes(), "{name}");
+    }
+    Ok(())
+}
+
 #[test]
 fn each_fault_ends_the_call(rt: HostRuntime) -> Result<(), Fail> {
     let alloc = rt.alloc();
