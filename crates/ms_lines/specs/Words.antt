@@ -1,0 +1,80 @@
+-- What words and kinds of tokens say that stand by themselves.
+use Rattle.std.specs.Prelude.{ℕ, ◌+◌, nat_eq, nat_le, Bool, true, false, ◌&&◌, if◌then◌else◌, List, [], ◌∷◌, drop, Option, Some, None, codes}
+use Rattle.std.specs.Cmp.Lexicographic.{pointwise}
+use Rattle.ms_text.specs.declared.token.Token.{Token}
+use Rattle.ms_text.specs.declared.token.TokenKind.{TokenKind}
+use Rattle.ms_text.specs.declared.token.TokenKind.TheVariants.{Name, LeftParen, Equal}
+use Rattle.ms_grammar.specs.declared.value.Value.{Value}
+use Rattle.ms_grammar.specs.declared.part.ValuePart.{ValuePart}
+use Rattle.ms_grammar.specs.Words.{Word, name, number, sign}
+use Rattle.ms_call.specs.declared.command.Call.{Call}
+use Rattle.ms_call.specs.declared.command.Truth.{Truth}
+use Rattle.ms_call.specs.declared.command.Truth.TheVariants.{True, False, Free}
+use Rattle.ms_call.specs.Commands.{most_answers, usual_limit, greatest_limit}
+
+abbrev pub name_in : Word → Option (List ℕ)
+name_in (name n) = Some n
+name_in w = None
+
+abbrev pub is_name : List ℕ → Word → Bool
+is_name n (name m) = pointwise nat_eq m n
+is_name n w = false
+
+abbrev pub within_most : ℕ → ℕ → Option ℕ
+within_most most n = if nat_le 1 n && nat_le n most then Some n else None
+
+-- a number from 1 to a greatest one
+abbrev pub number_in : ℕ → Word → Option ℕ
+number_in most (number n) = within_most most n
+number_in most w = None
+
+abbrev pub is_left_paren : TokenKind → Bool
+is_left_paren LeftParen = true
+is_left_paren kind = false
+
+-- tokens that carry on a value before them
+abbrev pub carries_on : List Token → Bool
+carries_on [] = false
+carries_on (t ∷ ts) = is_left_paren t.kind
+
+-- what was found, where what follows doesn't carry it on
+abbrev pub ended : List Token → Option (ValuePart × ℕ) → Option (Value × ℕ)
+ended tokens None = None
+ended tokens (Some found) = if carries_on (drop found.1 tokens) then None else Some (found.0.value, found.1)
+
+abbrev pub is_name_kind : TokenKind → Bool
+is_name_kind Name = true
+is_name_kind kind = false
+
+abbrev pub begins_with_name : List Token → Bool
+begins_with_name [] = false
+begins_with_name (t ∷ ts) = is_name_kind t.kind
+
+-- the call of this name with the arguments that were found, where what follows them doesn't carry it on
+abbrev pub call_with : List ℕ → List Token → Option (List Value × ℕ) → Option (Call × ℕ)
+call_with f tokens None = None
+call_with f tokens (Some found) = if carries_on (drop found.1 tokens) then None else Some (record { name = f; args = found.0 }, found.1 + 2)
+
+-- how many answers a word asks for
+abbrev pub count_in : Word → Option ℕ
+count_in w = if is_name (codes "all") w then Some most_answers else number_in most_answers w
+
+-- the limit that stands in front, and the words behind it
+abbrev pub limit_by : Word → Word → Word → List Word → Option ℕ → ℕ × List Word
+limit_by word between number rest None = (usual_limit, word ∷ between ∷ number ∷ rest)
+limit_by word between number rest (Some limit) = (limit, rest)
+
+abbrev pub limit_in : List Word → ℕ × List Word
+limit_in (word ∷ sign Equal ∷ n ∷ rest) = limit_by word (sign Equal) n rest (if is_name (codes "limit") word then number_in greatest_limit n else None)
+limit_in ws = (usual_limit, ws)
+
+abbrev pub truth_by : Word → Option Truth
+truth_by w =
+    if is_name (codes "true") w then Some True else
+    if is_name (codes "false") w then Some False else
+    if is_name (codes "free") w then Some Free else None
+
+-- what one word says
+abbrev pub truth_in : List Word → Option Truth
+truth_in (w ∷ []) = truth_by w
+truth_in ws = None
