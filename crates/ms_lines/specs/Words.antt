@@ -60,12 +60,12 @@ abbrev pub count_in : Word → Option ℕ
 count_in w = if is_name (codes "all") w then Some most_answers else number_in most_answers w
 
 -- the limit that stands in front, and the words behind it
-abbrev pub limit_by : Word → Word → Word → List Word → Option ℕ → ℕ × List Word
-limit_by word between number rest None = (usual_limit, word ∷ between ∷ number ∷ rest)
-limit_by word between number rest (Some limit) = (limit, rest)
+abbrev pub limit_by : Word → Word → List Word → Option ℕ → ℕ × List Word
+limit_by word n rest None = (usual_limit, word ∷ sign Equal ∷ n ∷ rest)
+limit_by word n rest (Some limit) = (limit, rest)
 
 abbrev pub limit_in : List Word → ℕ × List Word
-limit_in (word ∷ sign Equal ∷ n ∷ rest) = limit_by word (sign Equal) n rest (if is_name (codes "limit") word then number_in greatest_limit n else None)
+limit_in (word ∷ sign Equal ∷ n ∷ rest) = limit_by word n rest (if is_name (codes "limit") word then number_in greatest_limit n else None)
 limit_in ws = (usual_limit, ws)
 
 abbrev pub truth_by : Word → Option Truth
