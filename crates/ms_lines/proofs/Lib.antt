@@ -1,3 +1,5 @@
 pub mod Fronts
 pub mod ValueFronts
 pub mod Sequences
+pub mod LiteralFronts
+pub mod SignLemmas

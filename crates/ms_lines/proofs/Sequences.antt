@@ -32,7 +32,7 @@ module _ {V : Type 0} (Is : List Word → V → Type 0) where
     joined_nil [] j = refl
     joined_nil (u ∷ us) j = absurd (some u (subst (λ ws. Is ws u) (no_words j.0 j.1 j.2) j.3))
 
-    front_of : (rest : List Word) (u : V) (us : List V) → (j : AreJoined Is rest (u ∷ us)) → IsFront Is rest (u, length j.0)
+    abbrev front_of : (rest : List Word) (u : V) (us : List V) → (j : AreJoined Is rest (u ∷ us)) → IsFront Is rest (u, length j.0)
     front_of rest u us j = record { first = j.0; rest = j.1; words_are = j.2; count_is = refl; is = j.3; ends = joined_ends j.1 us j.4 }
 
     -- what stands in front is the first of them

@@ -140,3 +140,16 @@ module _ {E : Type 0} (text : List ℕ) (tokens : List Token) where
 
 pub none_if_no_name : (text : List ℕ) (tokens : List Token) → begins_with_name tokens ≡ false → Finds (IsFront IsAtom (words_of text tokens)) None
 none_if_no_name text tokens e = no_atom (words_of text tokens) (begins_not_from_tokens text tokens e)
+
+-- a value and an atom have a word
+pub is_value_some : (v : Value) → IsValue [] v → ⊥
+is_value_some v is = value_some is.spelling is.words_are
+
+pub is_atom_some : (v : Value) → IsAtom [] v → ⊥
+is_atom_some v is = is.begins
+
+-- and an atom doesn't carry on a value before it
+pub ends_at_name : (ws rest : List Word) → BeginsWithName ws → EndsValue (ws ++ rest)
+ends_at_name [] rest h = absurd h
+ends_at_name (name f ∷ ws) rest h = tt
+ends_at_name (_ ∷ ws) rest h = absurd h

@@ -1,5 +1,5 @@
 -- What a reader finds.
-use Rattle.std.specs.Prelude.{ℕ, suc, ◌≡◌, ◌≢◌, List, [], ◌∷◌, ◌++◌, length, Option, Some, None}
+use Rattle.std.specs.Prelude.{ℕ, suc, ◌≡◌, ◌≢◌, ◌<◌, ◌≤◌, List, [], ◌∷◌, ◌++◌, length, Option, Some, None, IfSome}
 use Rattle.ms_text.specs.declared.token.TokenKind.TheVariants.{RightParen, LeftParen}
 use Rattle.ms_grammar.specs.declared.value.Value.{Value}
 use Rattle.ms_grammar.specs.Words.{Word, name, sign}
@@ -40,3 +40,7 @@ pub record AreSomeClosed (ws : List Word) (found : List Value × ℕ) : Type 0 w
 -- A call of this name, where the words follow the name. The count has the name.
 abbrev pub IsCallAfter : List ℕ → List Word → Call × ℕ → Type 0
 IsCallAfter called ws found = IsFront IsCall (name called ∷ ws) found
+
+-- There is a first one, and there are no more than so many.
+abbrev pub FitWithin : {V : Type 0} → ℕ → Option (V × ℕ) → Type 0
+FitWithin most found = IfSome found (λ f. (0 < f.1) × (f.1 ≤ most))

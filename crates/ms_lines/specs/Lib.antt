@@ -1,4 +1,5 @@
 pub mod Words
+pub mod Signs
 pub mod Finding
 pub mod Buffers
 pub mod Feeding

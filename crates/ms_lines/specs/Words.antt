@@ -1,5 +1,6 @@
 -- What words and kinds of tokens say that stand by themselves.
 use Rattle.std.specs.Prelude.{ℕ, ◌+◌, nat_eq, nat_le, Bool, true, false, ◌&&◌, if◌then◌else◌, List, [], ◌∷◌, drop, Option, Some, None, codes}
+use Rattle.std.specs.Option.{option_map}
 use Rattle.std.specs.Cmp.Lexicographic.{pointwise}
 use Rattle.ms_text.specs.declared.token.Token.{Token}
 use Rattle.ms_text.specs.declared.token.TokenKind.{TokenKind}
@@ -10,6 +11,7 @@ use Rattle.ms_grammar.specs.Words.{Word, name, number, sign}
 use Rattle.ms_call.specs.declared.command.Call.{Call}
 use Rattle.ms_call.specs.declared.command.Truth.{Truth}
 use Rattle.ms_call.specs.declared.command.Truth.TheVariants.{True, False, Free}
+use Rattle.ms_call.specs.declared.command.Assumption.{Assumption}
 use Rattle.ms_call.specs.Commands.{most_answers, usual_limit, greatest_limit}
 
 abbrev pub name_in : Word → Option (List ℕ)
@@ -78,3 +80,10 @@ truth_by w =
 abbrev pub truth_in : List Word → Option Truth
 truth_in (w ∷ []) = truth_by w
 truth_in ws = None
+
+-- an atom that was found, as it is and behind `not`
+abbrev pub plain : Option (Value × ℕ) → Option (Assumption × ℕ)
+plain found = option_map (λ f. (record { atom = f.0; truth = true }, f.1)) found
+
+abbrev pub negated : Option (Value × ℕ) → Option (Assumption × ℕ)
+negated found = option_map (λ f. (record { atom = f.0; truth = false }, f.1 + 1)) found

@@ -2,7 +2,7 @@
 ghost use Rattle.std.specs.Prelude.{◌≡◌, length, IfOk};
 ghost use Rattle.ms_text.specs.Tokens.{LieWithin};
 ghost use Rattle.ms_grammar.specs.Words.{words_of};
-ghost use Rattle.ms_lines.specs.Finding.{Finds, AreClosed, AreSomeClosed};
+ghost use Rattle.ms_lines.specs.Finding.{Finds, FitWithin, AreClosed, AreSomeClosed};
 
 use crate::values::read_value;
 use ms_base::memory::OutOfMemory;
@@ -17,7 +17,8 @@ pub(crate) fn read_arguments(
     tokens: &[Token],
 ) -> Result<Option<(Values, usize)>, OutOfMemory>
     requires { LieWithin (length text.now) tokens.now }
-    ensures { IfOk result (Finds (AreClosed (words_of text.now tokens.now))) }
+    ensures found { IfOk result (Finds (AreClosed (words_of text.now tokens.now))) }
+    ensures within { IfOk result (FitWithin (length tokens.now)) }
 {
     match tokens {
         [first, ..] if matches!(first.kind, TokenKind::RightParen) => {
@@ -34,7 +35,8 @@ fn read_some_arguments(
     tokens: &[Token],
 ) -> Result<Option<(Values, usize)>, OutOfMemory>
     requires { LieWithin (length text.now) tokens.now }
-    ensures { IfOk result (Finds (AreSomeClosed (words_of text.now tokens.now))) }
+    ensures found { IfOk result (Finds (AreSomeClosed (words_of text.now tokens.now))) }
+    ensures within { IfOk result (FitWithin (length tokens.now)) }
 {
     let mut values = Values::new(alloc);
     let mut rest = tokens;

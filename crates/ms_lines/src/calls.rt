@@ -3,7 +3,7 @@ ghost use Rattle.std.specs.Prelude.{◌≡◌, length, IfOk};
 ghost use Rattle.ms_text.specs.Tokens.{LieWithin};
 ghost use Rattle.ms_grammar.specs.Words.{words_of};
 ghost use Rattle.ms_call.specs.Commands.{IsCall, AreSome};
-ghost use Rattle.ms_lines.specs.Finding.{Finds, IsFront, IsCallAfter};
+ghost use Rattle.ms_lines.specs.Finding.{Finds, FitWithin, IsFront, IsCallAfter};
 ghost use Rattle.ms_lines.specs.Words.{call_with};
 
 use crate::arguments::read_arguments;
@@ -46,7 +46,8 @@ fn read_call(
     tokens: &[Token],
 ) -> Result<Option<(Call, usize)>, OutOfMemory>
     requires { LieWithin (length text.now) tokens.now }
-    ensures { IfOk result (Finds (IsFront IsCall (words_of text.now tokens.now))) }
+    ensures found { IfOk result (Finds (IsFront IsCall (words_of text.now tokens.now))) }
+    ensures within { IfOk result (FitWithin (length tokens.now)) }
 {
     let Some((first, after)) = tokens.split_first() else {
         return Ok(None);
@@ -65,7 +66,8 @@ fn call_named(
     after: &[Token],
 ) -> Result<Option<(Call, usize)>, OutOfMemory>
     requires { LieWithin (length text.now) after.now }
-    ensures { IfOk result (Finds (IsCallAfter name (words_of text.now after.now))) }
+    ensures found { IfOk result (Finds (IsCallAfter name (words_of text.now after.now))) }
+    ensures within { IfOk result (FitWithin (length after.now)) }
 {
     match after {
         [bracket, inside @ ..] if matches!(bracket.kind, TokenKind::LeftParen) => {
@@ -84,6 +86,7 @@ fn call_named(
 
 /// The call of this name with the arguments that were found, where what follows them doesn't carry it on.
 fn call_with(name: Bytes, inside: &[Token], found: Option<(Values, usize)>) -> Option<(Call, usize)>
+    requires { FitWithin (length inside.now) found }
     ensures { result ≡ call_with name inside.now found }
 {
     match found {

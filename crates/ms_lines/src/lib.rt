@@ -13,6 +13,7 @@ mod calls;
 mod commands;
 mod kinds;
 mod literals;
+mod signs;
 mod solve;
 mod texts;
 mod values;

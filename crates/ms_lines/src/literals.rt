@@ -1,13 +1,16 @@
 // Literals one after another.
-ghost use Rattle.std.specs.Prelude.{◌≡◌, length, IfOk};
+ghost use Rattle.std.specs.Prelude.{◌≡◌, ◌^◌, ◌<◌, length, IfOk, IfSome};
 ghost use Rattle.ms_text.specs.Tokens.{LieWithin};
 ghost use Rattle.ms_grammar.specs.Words.{words_of};
 ghost use Rattle.ms_call.specs.Commands.{IsLiteral, AreSome};
-ghost use Rattle.ms_lines.specs.Finding.{Finds, IsFront};
+ghost use Rattle.ms_lines.specs.Finding.{Finds, FitWithin, IsFront};
+ghost use Rattle.ms_lines.specs.Words.{plain, negated};
 
+use crate::signs::{after_sign, tokens_after};
 use crate::values::read_atom;
 use ms_base::memory::OutOfMemory;
 use ms_call::command::{Assumption, Assumptions};
+use ms_grammar::value::Value;
 use ms_text::token::{Token, TokenKind};
 use std::alloc::Global;
 
@@ -27,7 +30,7 @@ pub(crate) fn read_literals(
             return Ok(None);
         };
         literals.push(literal)?;
-        rest = &rest[count..];
+        rest = tokens_after(rest, count);
         if rest.is_empty() {
             return Ok(Some(literals));
         }
@@ -41,16 +44,32 @@ fn read_literal(
     tokens: &[Token],
 ) -> Result<Option<(Assumption, usize)>, OutOfMemory>
     requires { LieWithin (length text.now) tokens.now }
-    ensures { IfOk result (Finds (IsFront IsLiteral (words_of text.now tokens.now))) }
+    ensures found { IfOk result (Finds (IsFront IsLiteral (words_of text.now tokens.now))) }
+    ensures within { IfOk result (FitWithin (length tokens.now)) }
 {
-    match tokens {
-        [first, after @ ..] if matches!(first.kind, TokenKind::Not) => {
-            let found = read_atom(alloc, text, after)?;
-            Ok(found.map(|(atom, count)| (Assumption { atom, truth: false }, count + 1)))
-        }
-        _ => {
-            let found = read_atom(alloc, text, tokens)?;
-            Ok(found.map(|(atom, count)| (Assumption { atom, truth: true }, count)))
-        }
+    match after_sign(tokens, TokenKind::Not) {
+        Some(after) => Ok(negated(read_atom(alloc, text, after)?)),
+        None => Ok(plain(read_atom(alloc, text, tokens)?)),
+    }
+}
+
+/// An atom that was found, as it is.
+fn plain(found: Option<(Value, usize)>) -> Option<(Assumption, usize)>
+    ensures { result ≡ plain found }
+{
+    match found {
+        Some((atom, count)) => Some((Assumption { atom, truth: true }, count)),
+        None => None,
+    }
+}
+
+/// An atom that was found behind `not`.
+fn negated(found: Option<(Value, usize)>) -> Option<(Assumption, usize)>
+    requires { IfSome found (λ f. f.1 < 2 ^ 63) }
+    ensures { result ≡ negated found }
+{
+    match found {
+        Some((atom, count)) => Some((Assumption { atom, truth: false }, count + 1)),
+        None => None,
     }
 }

@@ -3,7 +3,7 @@ ghost use Rattle.std.specs.Prelude.{◌≡◌, length, drop, IfOk};
 ghost use Rattle.ms_text.specs.Tokens.{LieWithin};
 ghost use Rattle.ms_grammar.specs.Words.{words_of};
 ghost use Rattle.ms_call.specs.Commands.{IsValue, IsAtom};
-ghost use Rattle.ms_lines.specs.Finding.{Finds, IsFront};
+ghost use Rattle.ms_lines.specs.Finding.{Finds, FitWithin, IsFront};
 ghost use Rattle.ms_lines.specs.Words.{carries_on, ended, begins_with_name};
 
 use ms_base::memory::OutOfMemory;
@@ -20,7 +20,8 @@ pub(crate) fn read_value(
     tokens: &[Token],
 ) -> Result<Option<(Value, usize)>, OutOfMemory>
     requires { LieWithin (length text.now) tokens.now }
-    ensures { IfOk result (Finds (IsFront IsValue (words_of text.now tokens.now))) }
+    ensures found { IfOk result (Finds (IsFront IsValue (words_of text.now tokens.now))) }
+    ensures within { IfOk result (FitWithin (length tokens.now)) }
 {
     let found = read_front(alloc, text, tokens)?;
     Ok(ended(tokens, found))
@@ -53,7 +54,8 @@ pub(crate) fn read_atom(
     tokens: &[Token],
 ) -> Result<Option<(Value, usize)>, OutOfMemory>
     requires { LieWithin (length text.now) tokens.now }
-    ensures { IfOk result (Finds (IsFront IsAtom (words_of text.now tokens.now))) }
+    ensures found { IfOk result (Finds (IsFront IsAtom (words_of text.now tokens.now))) }
+    ensures within { IfOk result (FitWithin (length tokens.now)) }
 {
     if begins_with_name(tokens) {
         read_value(alloc, text, tokens)
