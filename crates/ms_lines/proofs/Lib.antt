@@ -3,3 +3,5 @@ pub mod ValueFronts
 pub mod Sequences
 pub mod LiteralFronts
 pub mod SignLemmas
+pub mod Scanning
+pub mod ArgumentFronts

@@ -42,7 +42,6 @@ plain_parts : (ws atom rest : List Word) (truth : Bool) → ws ≡ (sign_words t
 plain_parts ws atom rest true e h = (refl, e)
 plain_parts ws atom rest false e h = absurd (h (atom ++ rest) e)
 
-
 module _ (ws : List Word) where
   negated_front : (f : Value × ℕ) → IsFront IsAtom ws f → IsFront IsLiteral (sign Not ∷ ws) (record { atom = f.0; truth = false }, f.1 + 1)
   negated_front f front = record {
@@ -81,24 +80,26 @@ module _ (ws : List Word) where
 
   negated_found : (found : Option (Value × ℕ)) → Finds (IsFront IsAtom ws) found → Finds (IsFront IsLiteral (sign Not ∷ ws)) (negated found)
   negated_found None h = λ f front. h _ (not_front f front).3
-  negated_found (Some found) h =
-      (negated_front found h.0,
-       λ f front.
-         let n = not_front f front in
-         let same : (f.0.atom, n.0) ≡ found = h.1 _ n.3 in
-         let literal : f.0 ≡ record { atom = found.0; truth = false } = ap (λ t. record { atom = f.0.atom; truth = t }) n.2 ∙ ap (λ g. record { atom = g.0; truth = false }) same in
-         let count : f.1 ≡ found.1 + 1 = n.1 ∙ ap (λ g. g.1 + 1) same in
-         ap (λ l. (l, f.1)) literal ∙ ap (λ m. (record { atom = found.0; truth = false }, m)) count)
+  negated_found (Some found) h = (
+    negated_front found h.0,
+    λ f front.
+        let n = not_front f front in
+        let same : (f.0.atom, n.0) ≡ found = h.1 _ n.3 in
+        let literal : f.0 ≡ record { atom = found.0; truth = false } = ap (λ t. record { atom = f.0.atom; truth = t }) n.2 ∙ ap (λ g. record { atom = g.0; truth = false }) same in
+        let count : f.1 ≡ found.1 + 1 = n.1 ∙ ap (λ g. g.1 + 1) same in
+        ap (λ l. (l, f.1)) literal ∙ ap (λ m. (record { atom = found.0; truth = false }, m)) count,
+  )
 
   plain_found : ((us : List Word) → ws ≡ sign Not ∷ us → ⊥) → (found : Option (Value × ℕ)) → Finds (IsFront IsAtom ws) found → Finds (IsFront IsLiteral ws) (plain found)
   plain_found bare None h = λ f front. h _ (bare_front bare f front).1
-  plain_found bare (Some found) h =
-      (plain_front found h.0,
-       λ f front.
-         let n = bare_front bare f front in
-         let same : (f.0.atom, f.1) ≡ found = h.1 _ n.1 in
-         let literal : f.0 ≡ record { atom = f.0.atom; truth = true } = ap (λ t. record { atom = f.0.atom; truth = t }) n.0 in
-         ap (λ l. (l, f.1)) literal ∙ ap (λ g. (record { atom = g.0; truth = true }, g.1)) same)
+  plain_found bare (Some found) h = (
+    plain_front found h.0,
+    λ f front.
+        let n = bare_front bare f front in
+        let same : (f.0.atom, f.1) ≡ found = h.1 _ n.1 in
+        let literal : f.0 ≡ record { atom = f.0.atom; truth = true } = ap (λ t. record { atom = f.0.atom; truth = t }) n.0 in
+        ap (λ l. (l, f.1)) literal ∙ ap (λ g. (record { atom = g.0; truth = true }, g.1)) same,
+  )
 
 module _ (text : List ℕ) (tokens : List Token) (found : Option (Value × ℕ)) where
   pub literal_behind_not : (after : List Token) → Begins tokens Not after → Finds (IsFront IsAtom (words_of text after)) found → Finds (IsFront IsLiteral (words_of text tokens)) (negated found)

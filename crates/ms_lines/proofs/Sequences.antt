@@ -1,5 +1,6 @@
 -- One after another, up to the end of the words.
-use Rattle.std.proofs.Common.{◌≡◌, ℕ, List, [], ◌∷◌, ◌++◌, length, drop, Option, Some, None, refl, sym, ap, ◌∙◌, subst, append_assoc}
+use Rattle.std.proofs.Common.{◌≡◌, ℕ, List, [], ◌∷◌, ◌++◌, length, drop, Option, Some, None, Bool, true, false, eqb, refl, sym, ap, ◌∙◌, subst, append_assoc, arith, eqb-true}
+use Rattle.std.proofs.lemmas.Bool.{true≢false}
 use Rattle.ms_text.specs.declared.token.Token.{Token}
 use Rattle.ms_grammar.specs.Words.{Word, words_of}
 use Rattle.ms_grammar.specs.Reading.{EndsValue}
@@ -52,19 +53,20 @@ module _ {V : Type 0} (Is : List Word → V → Type 0) where
       more_words f found more = record {
         sound = λ us h. subst (AreSome Is all) (sym (append_assoc before (f.0 ∷ []) us)) (goes.sound (f.0 ∷ us) (with_front rest f found.0 us h.1));
         only = λ vs h.
-          let g = goes.only vs h in
-          let i = first_is rest f found g.0 g.2 in
-          (i.0, g.1 ∙ ap (λ us. before ++ us) i.1 ∙ sym (append_assoc before (f.0 ∷ []) i.0), (λ none. more (subst (AreJoined Is (drop f.1 rest)) none i.2), i.2));
+            let g = goes.only vs h in
+            let i = first_is rest f found g.0 g.2 in
+            (i.0, g.1 ∙ ap (λ us. before ++ us) i.1 ∙ sym (append_assoc before (f.0 ∷ []) i.0), (λ none. more (subst (AreJoined Is (drop f.1 rest)) none i.2), i.2));
       }
 
       last_words : (f : V × ℕ) → IsOnly (IsFront Is rest) f → drop f.1 rest ≡ [] → IsOnly (AreSome Is all) (before ++ f.0 ∷ [])
-      last_words f found last =
-          (goes.sound (f.0 ∷ []) (with_front rest f found.0 [] last),
-           λ vs h.
-             let g = goes.only vs h in
-             let i = first_is rest f found g.0 g.2 in
-             let none : i.0 ≡ [] = joined_nil i.0 (subst (λ ws. AreJoined Is ws i.0) last i.2) in
-             g.1 ∙ ap (λ us. before ++ us) (i.1 ∙ ap (λ us. f.0 ∷ us) none))
+      last_words f found last = (
+        goes.sound (f.0 ∷ []) (with_front rest f found.0 [] last),
+        λ vs h.
+            let g = goes.only vs h in
+            let i = first_is rest f found g.0 g.2 in
+            let none : i.0 ≡ [] = joined_nil i.0 (subst (λ ws. AreJoined Is ws i.0) last i.2) in
+            g.1 ∙ ap (λ us. before ++ us) (i.1 ∙ ap (λ us. f.0 ∷ us) none),
+      )
 
       none_from : ((f : V × ℕ) → IsFront Is rest f → ⊥) → (us : List V) → AreSome Is rest us → ⊥
       none_from none [] h = h.0 refl
@@ -87,3 +89,22 @@ module _ {V : Type 0} (Is : List Word → V → Type 0) where
 
       pub goes_last : after ≡ [] → IsOnly (AreSome Is all) (before ++ f.0 ∷ [])
       goes_last last = last_words all before (words_of text rest) goes f found (rest_words ∙ ap (words_of text) last)
+
+  module _ (starts : (first rest : List Word) (v : V) → Is first v → EndsValue (first ++ rest)) (some : (v : V) → Is [] v → ⊥) (text : List ℕ) (all : List Word) (before : List V) (rest : List Token) (goes : GoesOn all before (words_of text rest)) (found : Option (V × ℕ)) (finds : Finds (IsFront Is (words_of text rest)) found) where
+    -- nothing was found, or the last, or one before others
+    pub seq_none : found ≡ None → (vs : List V) → AreSome Is all vs → ⊥
+    seq_none e = no_words_more starts some all before (words_of text rest) goes (subst (Finds (IsFront Is (words_of text rest))) e finds)
+
+    module _ (f : V × ℕ) (e : found ≡ Some f) (next : List V) (pushed : next ≡ before ++ f.0 ∷ []) (after : List Token) (a : after ≡ drop f.1 rest) where
+      only_front : IsOnly (IsFront Is (words_of text rest)) f
+      only_front = subst (Finds (IsFront Is (words_of text rest))) e finds
+
+      empty_list : (ts : List Token) → length ts ≡ 0 → ts ≡ []
+      empty_list [] h = refl
+      empty_list (t ∷ ts) h = absurd (omega arith)
+
+      pub seq_last : eqb (length after) 0 ≡ true → IsOnly (AreSome Is all) next
+      seq_last h = subst (IsOnly (AreSome Is all)) (sym pushed) (goes_last starts some text all before rest after goes f only_front a (empty_list after (eqb-true (length after) 0 h)))
+
+      pub seq_more : eqb (length after) 0 ≡ false → GoesOn all next (words_of text after)
+      seq_more h = subst (λ vs. GoesOn all vs (words_of text after)) (sym pushed) (goes_more starts some text all before rest after goes f only_front a (λ none. true≢false (ap (λ ts. eqb (length ts) 0) (sym none) ∙ h)))

@@ -1,6 +1,6 @@
 -- What words tell of the kind of token that comes first.
-use Rattle.std.proofs.Common.{◌≡◌, ℕ, suc, ◌≤◌, List, [], ◌∷◌, length, refl, ap, ◌∙◌}
-use Rattle.std.proofs.lemmas.List.Elements.{All-rest}
+use Rattle.std.proofs.Common.{◌≡◌, ℕ, suc, ◌≤◌, List, [], ◌∷◌, length, drop, refl, ap, sym, subst, ◌∙◌}
+use Rattle.std.proofs.lemmas.List.Elements.{All-rest, All-drop}
 use Rattle.ms_text.specs.declared.token.Token.{Token}
 use Rattle.ms_text.specs.declared.token.TokenKind.{TokenKind}
 use Rattle.ms_text.specs.declared.token.TokenKind.TheVariants.{Name}
@@ -41,3 +41,7 @@ after_within n kind tokens rest b h = rest_within n b.first rest tokens b.tokens
 
 pub after_shorter : (kind : TokenKind) (tokens rest : List Token) → Begins tokens kind rest → length tokens ≡ suc (length rest)
 after_shorter kind tokens rest b = ap length b.tokens_are
+
+-- the tokens after the first ones
+pub drop_within : (n count : ℕ) (tokens rest : List Token) → rest ≡ drop count tokens → LieWithin n tokens → LieWithin n rest
+drop_within n count tokens rest e h = subst (LieWithin n) (sym e) (All-drop (LiesWithin n) count tokens h)

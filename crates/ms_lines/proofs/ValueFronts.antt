@@ -53,20 +53,21 @@ module _ (text : List ℕ) (tokens : List Token) where
       let rest : words_of text (drop n tokens) ≡ front.rest = sym (words_of-drop text n tokens) ∙ ap (λ m. drop m all) (parts.1 ∙ sym front.count_is) ∙ front_rest front in
       carries_from_tokens text (drop n tokens) e (subst EndsValue (sym rest) front.ends)
   value_by part n read false e =
-      let here = read.sound in
-      (record {
-         first = value_words here.derivation;
-         rest = drop n all;
-         words_are = sym (ap (λ w. w ++ drop n all) here.words_are ∙ take-append-drop n all);
-         count_is = sym (ap length here.words_are ∙ length-take-le n all here.within);
-         is = record { spelling = here.derivation; part = part; words_are = refl; spells = here.spells; value_is = refl };
-         ends = subst EndsValue (sym (words_of-drop text n tokens)) (ends_from_tokens text (drop n tokens) e);
-       },
-       λ f front.
-         let parts = some_pair_parts part front.is.part n (length front.first) (was_found (Some (part, n)) read f front) in
-         let value : part.value ≡ f.0 = ap (λ p. p.value) parts.0 ∙ front.is.value_is in
-         let count : n ≡ f.1 = parts.1 ∙ sym front.count_is in
-         ap (λ v. (v, f.1)) (sym value) ∙ ap (λ m. (part.value, m)) (sym count))
+      let here = read.sound in (
+        record {
+          first = value_words here.derivation;
+          rest = drop n all;
+          words_are = sym (ap (λ w. w ++ drop n all) here.words_are ∙ take-append-drop n all);
+          count_is = sym (ap length here.words_are ∙ length-take-le n all here.within);
+          is = record { spelling = here.derivation; part = part; words_are = refl; spells = here.spells; value_is = refl };
+          ends = subst EndsValue (sym (words_of-drop text n tokens)) (ends_from_tokens text (drop n tokens) e);
+        },
+        λ f front.
+            let parts = some_pair_parts part front.is.part n (length front.first) (was_found (Some (part, n)) read f front) in
+            let value : part.value ≡ f.0 = ap (λ p. p.value) parts.0 ∙ front.is.value_is in
+            let count : n ≡ f.1 = parts.1 ∙ sym front.count_is in
+            ap (λ v. (v, f.1)) (sym value) ∙ ap (λ m. (part.value, m)) (sym count),
+      )
 
   pub value_found : (found : Option (ValuePart × ℕ)) → ValueRead all found → Finds (IsFront IsValue all) (ended tokens found)
   value_found None read = λ f front. none-some (front.is.part, length front.first) (was_found None read f front)

@@ -25,12 +25,12 @@ pub record IsFront {V : Type 0} (Is : List Word → V → Type 0) (ws : List Wor
   pub is : Is first found.0
   pub ends : EndsValue rest
 
--- So many words at the front are the values up to a `)` and it.
+-- The words at the front are the values up to a `)`, and so many words stand behind it.
 pub record AreClosed (ws : List Word) (found : List Value × ℕ) : Type 0 where
   pub inside : List Word
   pub rest : List Word
   pub words_are : ws ≡ inside ++ sign RightParen ∷ rest
-  pub count_is : found.1 ≡ suc (length inside)
+  pub count_is : found.1 ≡ length rest
   pub values_are : AreArguments inside found.0
 
 pub record AreSomeClosed (ws : List Word) (found : List Value × ℕ) : Type 0 where

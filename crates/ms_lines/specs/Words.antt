@@ -1,5 +1,5 @@
 -- What words and kinds of tokens say that stand by themselves.
-use Rattle.std.specs.Prelude.{ℕ, ◌+◌, nat_eq, nat_le, Bool, true, false, ◌&&◌, if◌then◌else◌, List, [], ◌∷◌, drop, Option, Some, None, codes}
+use Rattle.std.specs.Prelude.{ℕ, ◌+◌, ◌-◌, nat_eq, nat_le, Bool, true, false, ◌&&◌, if◌then◌else◌, List, [], ◌∷◌, length, drop, Option, Some, None, codes}
 use Rattle.std.specs.Option.{option_map}
 use Rattle.std.specs.Cmp.Lexicographic.{pointwise}
 use Rattle.ms_text.specs.declared.token.Token.{Token}
@@ -55,7 +55,7 @@ begins_with_name (t ∷ ts) = is_name_kind t.kind
 -- the call of this name with the arguments that were found, where what follows them doesn't carry it on
 abbrev pub call_with : List ℕ → List Token → Option (List Value × ℕ) → Option (Call × ℕ)
 call_with f tokens None = None
-call_with f tokens (Some found) = if carries_on (drop found.1 tokens) then None else Some (record { name = f; args = found.0 }, found.1 + 2)
+call_with f tokens (Some found) = if carries_on (drop (length tokens - found.1) tokens) then None else Some (record { name = f; args = found.0 }, length tokens - found.1 + 2)
 
 -- how many answers a word asks for
 abbrev pub count_in : Word → Option ℕ

@@ -1,5 +1,5 @@
 // Calls one after another.
-ghost use Rattle.std.specs.Prelude.{◌≡◌, length, IfOk};
+ghost use Rattle.std.specs.Prelude.{◌≡◌, ◌+◌, ◌<◌, length, IfOk, IfSome};
 ghost use Rattle.ms_text.specs.Tokens.{LieWithin};
 ghost use Rattle.ms_grammar.specs.Words.{words_of};
 ghost use Rattle.ms_call.specs.Commands.{IsCall, AreSome};
@@ -7,6 +7,7 @@ ghost use Rattle.ms_lines.specs.Finding.{Finds, FitWithin, IsFront, IsCallAfter}
 ghost use Rattle.ms_lines.specs.Words.{call_with};
 
 use crate::arguments::read_arguments;
+use crate::signs::{after_sign, tokens_after};
 use crate::values::carries_on;
 use crate::words::name_of;
 use ms_base::memory::OutOfMemory;
@@ -32,7 +33,7 @@ pub(crate) fn read_calls(
             return Ok(None);
         };
         calls.push(call)?;
-        rest = &rest[count..];
+        rest = tokens_after(rest, count);
         if rest.is_empty() {
             return Ok(Some(calls));
         }
@@ -67,30 +68,30 @@ fn call_named(
 ) -> Result<Option<(Call, usize)>, OutOfMemory>
     requires { LieWithin (length text.now) after.now }
     ensures found { IfOk result (Finds (IsCallAfter name (words_of text.now after.now))) }
-    ensures within { IfOk result (FitWithin (length after.now)) }
+    ensures within { IfOk result (FitWithin (length after.now + 1)) }
 {
-    match after {
-        [bracket, inside @ ..] if matches!(bracket.kind, TokenKind::LeftParen) => {
-            let found = read_arguments(alloc, text, inside)?;
-            Ok(call_with(name, inside, found))
-        }
-        _ => Ok(Some((
+    let Some(inside) = after_sign(after, TokenKind::LeftParen) else {
+        return Ok(Some((
             Call {
                 name,
                 args: Values::new(alloc),
             },
             1,
-        ))),
-    }
+        )));
+    };
+    let found = read_arguments(alloc, text, inside)?;
+    Ok(call_with(name, inside, found))
 }
 
 /// The call of this name with the arguments that were found, where what follows them doesn't carry it on.
 fn call_with(name: Bytes, inside: &[Token], found: Option<(Values, usize)>) -> Option<(Call, usize)>
-    requires { FitWithin (length inside.now) found }
+    requires { IfSome found (λ f. f.1 < length inside.now) }
     ensures { result ≡ call_with name inside.now found }
 {
-    match found {
-        Some((args, count)) if !carries_on(inside, count) => Some((Call { name, args }, count + 2)),
-        _ => None,
+    let (args, left) = found?;
+    let count = inside.len() - left;
+    if carries_on(inside, count) {
+        return None;
     }
+    Some((Call { name, args }, count + 2))
 }

@@ -13,7 +13,6 @@ pub(crate) fn after_sign(tokens: &[Token], kind: TokenKind) -> Option<&[Token]>
     (first.kind == kind).then_some(rest)
 }
 
-
 /// The tokens after the first ones.
 pub(crate) fn tokens_after(tokens: &[Token], count: usize) -> &[Token]
     requires { count ≤ length tokens.now }

@@ -1,9 +1,19 @@
-use Rattle.std.proofs.Common.{subst, sym}
+use Rattle.std.proofs.Common.{sym, ◌∙◌}
+use Rattle.ms_call.specs.Commands.{IsLiteral}
+use Rattle.ms_lines.proofs.LiteralFronts.{literal_starts, literal_some}
+use Rattle.ms_lines.proofs.SignLemmas.{drop_within}
+use Rattle.ms_lines.proofs.Sequences.{goes_from_start, seq_none, seq_last, seq_more}
 use Rattle.ms_lines.proofs.literals.read_literals.Goals as goal
-use Rattle.ms_lines.proofs.Sequences.{GoesOn}
 
 pub returns-in_default : goal.returns-in_default
-returns-in_default c = let h = c.in_default.is in let k = c.in_ok-literal.ensures in let n = c.in_default.not-Some in ?
+returns-in_default c = seq_none IsLiteral literal_starts literal_some c.args.text.now _ _ _ c.loop-literals.invariant.goes _ c.in_ok-literal.ensures.found c.in_default.is
 
 pub returns-then-is_empty : goal.returns-then-is_empty
-returns-then-is_empty c = let h = c.in-Some.is in let k = c.in_ok-literal.ensures in let n = c.if-is_empty.true in let m = c.push.ensures in let l = c.in_ok-push.ensures in let t = c.tokens_after-rest.ensures in ?
+returns-then-is_empty c =
+    seq_last IsLiteral literal_starts literal_some c.args.text.now _ _ _ c.loop-literals.invariant.goes _ c.in_ok-literal.ensures.found _ c.in-Some.is _ c.in_ok-push.ensures.ok _ c.tokens_after-rest.ensures (sym c.is_empty.ensures ∙ c.if-is_empty.true)
+
+pub loop-literals-preserved : goal.loop-literals-preserved
+loop-literals-preserved c = record {
+  inside = drop_within _ _ _ _ c.tokens_after-rest.ensures c.loop-literals.invariant.inside;
+  goes = seq_more IsLiteral literal_starts literal_some c.args.text.now _ _ _ c.loop-literals.invariant.goes _ c.in_ok-literal.ensures.found _ c.in-Some.is _ c.in_ok-push.ensures.ok _ c.tokens_after-rest.ensures (sym c.is_empty.ensures ∙ c.if-is_empty.false);
+}
