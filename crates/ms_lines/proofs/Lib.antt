@@ -5,3 +5,4 @@ pub mod LiteralFronts
 pub mod SignLemmas
 pub mod Scanning
 pub mod ArgumentFronts
+pub mod CallFronts

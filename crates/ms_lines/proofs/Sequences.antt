@@ -11,7 +11,7 @@ use Rattle.ms_lines.proofs.Fronts.{words_of-drop, front_rest}
 pub cons-not-nil : {X : Type 0} (x : X) (xs : List X) → x ∷ xs ≡ [] → ⊥
 cons-not-nil x xs e = cc
 
-no_words : (first rest : List Word) → [] ≡ first ++ rest → first ≡ []
+pub no_words : (first rest : List Word) → [] ≡ first ++ rest → first ≡ []
 no_words [] rest e = refl
 no_words (w ∷ ws) rest e = absurd (cons-not-nil w (ws ++ rest) (sym e))
 
