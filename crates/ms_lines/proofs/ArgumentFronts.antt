@@ -45,12 +45,13 @@ module _ (ws : List Word) where
   none_unique (v ∷ vs) inside rest e is = absurd (arguments_not_closing inside (sign RightParen ∷ rest) ws v vs is (sym e))
 
   closed_at_once : IsOnly (AreClosed (sign RightParen ∷ ws)) ([], length ws)
-  closed_at_once =
-      (record { inside = []; rest = ws; words_are = refl; count_is = refl; values_are = refl },
-       λ f c.
-         let same = none_unique f.0 c.inside c.rest c.words_are c.values_are in
-         let count : f.1 ≡ length ws = c.count_is ∙ ap length same.1 in
-         ap (λ args. (args, f.1)) same.0 ∙ ap (λ n. ([], n)) count)
+  closed_at_once = (
+    record { inside = []; rest = ws; words_are = refl; count_is = refl; values_are = refl },
+    λ f c.
+        let same = none_unique f.0 c.inside c.rest c.words_are c.values_are in
+        let count : f.1 ≡ length ws = c.count_is ∙ ap length same.1 in
+        ap (λ args. (args, f.1)) same.0 ∙ ap (λ n. ([], n)) count,
+  )
 
 -- Something else comes first: there are values.
 module _ (ws : List Word) (other : (us : List Word) → ws ≡ sign RightParen ∷ us → ⊥) where
@@ -131,31 +132,32 @@ module _ (ws : List Word) (f : Value × ℕ) (found : IsOnly (IsFront IsValue ws
     in_more rest e = record {
       sound = λ us left c. subst (λ vs. AreSomeClosed all (vs, left)) (sym (append_assoc before (f.0 ∷ []) us)) (goes.sound (f.0 ∷ us) left (more_closed rest e us left c));
       only = λ g c.
-        let i = goes.only g c in
-        elim (goes_some (i.0, g.1) i.2) [
-          | inl h ↦ absurd (let same : sign Comma ∷ rest ≡ sign RightParen ∷ h.0 = sym e ∙ h.1 in let f : ⊥ = cc in f)
-          | inr h ↦
-              let whole : sign Comma ∷ h.0 ≡ sign Comma ∷ rest = sym h.2 ∙ e in
-              let same : h.0 ≡ rest = cc in
-              (h.1, i.1 ∙ ap (λ us. before ++ us) h.3 ∙ sym (append_assoc before (f.0 ∷ []) h.1), subst (λ ws. AreSomeClosed ws (h.1, g.1)) same h.4)
-        ];
+          let i = goes.only g c in
+          elim (goes_some (i.0, g.1) i.2) [
+            | inl h ↦ absurd (let same : sign Comma ∷ rest ≡ sign RightParen ∷ h.0 = sym e ∙ h.1 in let f : ⊥ = cc in f)
+            | inr h ↦
+                let whole : sign Comma ∷ h.0 ≡ sign Comma ∷ rest = sym h.2 ∙ e in
+                let same : h.0 ≡ rest = cc in
+                (h.1, i.1 ∙ ap (λ us. before ++ us) h.3 ∙ sym (append_assoc before (f.0 ∷ []) h.1), subst (λ ws. AreSomeClosed ws (h.1, g.1)) same h.4)
+          ];
     }
 
     -- `)` comes next
     in_last : (rest : List Word) → drop f.1 ws ≡ sign RightParen ∷ rest → IsOnly (AreSomeClosed all) (before ++ f.0 ∷ [], length rest)
-    in_last rest e =
-        (goes.sound (f.0 ∷ []) (length rest) (one_closed rest e),
-         λ g c.
-           let i = goes.only g c in
-           elim (goes_some (i.0, g.1) i.2) [
-             | inl h ↦
-                 let whole : sign RightParen ∷ h.0 ≡ sign RightParen ∷ rest = sym h.1 ∙ e in
-                 let same : h.0 ≡ rest = cc in
-                 let args : g.0 ≡ before ++ f.0 ∷ [] = i.1 ∙ ap (λ us. before ++ us) h.2 in
-                 let count : g.1 ≡ length rest = h.3 ∙ ap length same in
-                 ap (λ vs. (vs, g.1)) args ∙ ap (λ n. (before ++ f.0 ∷ [], n)) count
-             | inr h ↦ absurd (let same : sign RightParen ∷ rest ≡ sign Comma ∷ h.0 = sym e ∙ h.2 in let f : ⊥ = cc in f)
-           ])
+    in_last rest e = (
+      goes.sound (f.0 ∷ []) (length rest) (one_closed rest e),
+      λ g c.
+          let i = goes.only g c in
+          elim (goes_some (i.0, g.1) i.2) [
+            | inl h ↦
+                let whole : sign RightParen ∷ h.0 ≡ sign RightParen ∷ rest = sym h.1 ∙ e in
+                let same : h.0 ≡ rest = cc in
+                let args : g.0 ≡ before ++ f.0 ∷ [] = i.1 ∙ ap (λ us. before ++ us) h.2 in
+                let count : g.1 ≡ length rest = h.3 ∙ ap length same in
+                ap (λ vs. (vs, g.1)) args ∙ ap (λ n. (before ++ f.0 ∷ [], n)) count
+            | inr h ↦ absurd (let same : sign RightParen ∷ rest ≡ sign Comma ∷ h.0 = sym e ∙ h.2 in let f : ⊥ = cc in f)
+          ],
+    )
 
     -- neither does
     in_neither : ((rest : List Word) → drop f.1 ws ≡ sign Comma ∷ rest → ⊥) → ((rest : List Word) → drop f.1 ws ≡ sign RightParen ∷ rest → ⊥) → (g : List Value × ℕ) → AreSomeClosed all g → ⊥

@@ -44,7 +44,7 @@ parts_by f ws called args n first rest e count (inl is) ends =
     inl (ap (λ c. (record { name = c; args = args }, n)) called_is ∙ ap (λ a. (record { name = f; args = a }, n)) is.1 ∙ ap (λ m. (record { name = f; args = [] }, m)) one, subst EndsValue rest_is ends)
 parts_by f ws called args n first rest e count (inr is) ends =
     let whole : name f ∷ ws ≡ name called ∷ sign LeftParen ∷ (is.0 ++ sign RightParen ∷ rest) =
-          e ∙ ap (λ xs. xs ++ rest) is.1 ∙ ap (λ xs. name called ∷ sign LeftParen ∷ xs) (append_assoc is.0 (sign RightParen ∷ []) rest) in
+    e ∙ ap (λ xs. xs ++ rest) is.1 ∙ ap (λ xs. name called ∷ sign LeftParen ∷ xs) (append_assoc is.0 (sign RightParen ∷ []) rest) in
     let called_is : called ≡ f = cc in
     let rest_is : ws ≡ sign LeftParen ∷ (is.0 ++ sign RightParen ∷ rest) = cc in
     let size : length first ≡ length (name called ∷ sign LeftParen ∷ is.0 ++ sign RightParen ∷ []) = ap length is.1 in
@@ -57,9 +57,10 @@ parts_of f ws g front = parts_by f ws g.0.name g.0.args g.1 front.first front.re
 
 -- the name alone
 name_alone : (f : List ℕ) (ws : List Word) → ((us : List Word) → ws ≡ sign LeftParen ∷ us → ⊥) → IsOnly (IsCallAfter f ws) (record { name = f; args = [] }, 1)
-name_alone f ws h =
-    (record { first = name f ∷ []; rest = ws; words_are = refl; count_is = refl; is = inl (refl, refl); ends = ends_unless ws h },
-     λ g front. elim (parts_of f ws g front) [ inl p ↦ p.0 | inr p ↦ absurd (h (p.0 ++ sign RightParen ∷ p.1) p.2) ])
+name_alone f ws h = (
+  record { first = name f ∷ []; rest = ws; words_are = refl; count_is = refl; is = inl (refl, refl); ends = ends_unless ws h },
+  λ g front. elim (parts_of f ws g front) [ inl p ↦ p.0 | inr p ↦ absurd (h (p.0 ++ sign RightParen ∷ p.1) p.2) ],
+)
 
 -- the words behind the arguments
 closed_rest : (ws : List Word) (f : List Value × ℕ) (c : AreClosed ws f) → drop (length ws - f.1) ws ≡ c.rest
@@ -115,22 +116,23 @@ module _ (text : List ℕ) (f : List ℕ) (tokens : List Token) where
           carries_from_tokens text (drop count tokens) e (subst EndsValue o.1 p.5)
     ]
     call_by false e =
-        let c = only.0 in
-        (record {
-           first = name f ∷ sign LeftParen ∷ c.inside ++ sign RightParen ∷ [];
-           rest = c.rest;
-           words_are = ap (λ xs. name f ∷ sign LeftParen ∷ xs) (c.words_are ∙ sym (append_assoc c.inside (sign RightParen ∷ []) c.rest));
-           count_is = let total : length (c.inside ++ sign RightParen ∷ []) ≡ length c.inside + 1 = length-append c.inside (sign RightParen ∷ []) in omega (arith, total, sizes c.inside c.rest c.words_are (sym c.count_is));
-           is = inr (c.inside, refl, c.values_are);
-           ends = subst EndsValue behind (ends_from_tokens text (drop count tokens) e);
-         },
-         λ g front. elim (parts_of f (sign LeftParen ∷ ws) g front) [
-           | inl p ↦ absurd p.1
-           | inr p ↦
-               let e : ws ≡ p.0 ++ sign RightParen ∷ p.1 = same_inside ws p.0 p.1 p.2 in
-               let o = only_parts p.0 p.1 g.0.args e p.4 in
-               p.3 ∙ ap (λ a. (record { name = f; args = a }, length p.0 + 3)) (ap (λ h. h.0) o.0) ∙ ap (λ n. (record { name = f; args = found.0 }, n)) (sizes p.0 p.1 e (ap (λ h. h.1) o.0))
-         ])
+        let c = only.0 in (
+          record {
+            first = name f ∷ sign LeftParen ∷ c.inside ++ sign RightParen ∷ [];
+            rest = c.rest;
+            words_are = ap (λ xs. name f ∷ sign LeftParen ∷ xs) (c.words_are ∙ sym (append_assoc c.inside (sign RightParen ∷ []) c.rest));
+            count_is = let total : length (c.inside ++ sign RightParen ∷ []) ≡ length c.inside + 1 = length-append c.inside (sign RightParen ∷ []) in omega (arith, total, sizes c.inside c.rest c.words_are (sym c.count_is));
+            is = inr (c.inside, refl, c.values_are);
+            ends = subst EndsValue behind (ends_from_tokens text (drop count tokens) e);
+          },
+          λ g front. elim (parts_of f (sign LeftParen ∷ ws) g front) [
+            | inl p ↦ absurd p.1
+            | inr p ↦
+                let e : ws ≡ p.0 ++ sign RightParen ∷ p.1 = same_inside ws p.0 p.1 p.2 in
+                let o = only_parts p.0 p.1 g.0.args e p.4 in
+                p.3 ∙ ap (λ a. (record { name = f; args = a }, length p.0 + 3)) (ap (λ h. h.0) o.0) ∙ ap (λ n. (record { name = f; args = found.0 }, n)) (sizes p.0 p.1 e (ap (λ h. h.1) o.0))
+          ],
+        )
 
   call_found : (found : Option (List Value × ℕ)) → Finds (AreClosed ws) found → Finds (IsCallAfter f (sign LeftParen ∷ ws)) (call_with f tokens found)
   call_found None h = no_call h

@@ -14,7 +14,6 @@ module _ (test : ℕ → Bool) where
   abbrev front_len : List ℕ → ℕ
   front_len xs = prefix_len test xs
 
-
   past_by : (x : ℕ) (xs : List ℕ) (k : ℕ) → (k ≤ front_len xs → front_len xs ≡ k + front_len (drop k xs)) → (b : Bool) → test x ≡ b → suc k ≤ front_len (x ∷ xs) → front_len (x ∷ xs) ≡ suc k + front_len (drop k xs)
   past_by x xs k h true e le = let here : front_len (x ∷ xs) ≡ suc (front_len xs) = rw (e, one-add) refl in omega (arith, here, h (omega (arith, here, le)))
   past_by x xs k h false e le = let here : front_len (x ∷ xs) ≡ 0 = rw e refl in absurd (omega (arith, here, le))

@@ -1,18 +1,20 @@
 -- What words and kinds of tokens say that stand by themselves.
-use Rattle.std.specs.Prelude.{ℕ, ◌+◌, ◌-◌, nat_eq, nat_le, Bool, true, false, ◌&&◌, if◌then◌else◌, List, [], ◌∷◌, length, drop, Option, Some, None, codes}
+use Rattle.std.specs.Prelude.{ℕ, ◌+◌, ◌-◌, nat_eq, nat_le, ◌==◌, Bool, true, false, ◌&&◌, if◌then◌else◌, List, [], ◌∷◌, length, drop, Option, Some, None, codes}
 use Rattle.std.specs.Option.{option_map}
 use Rattle.std.specs.Cmp.Lexicographic.{pointwise}
 use Rattle.ms_text.specs.declared.token.Token.{Token}
 use Rattle.ms_text.specs.declared.token.TokenKind.{TokenKind}
-use Rattle.ms_text.specs.declared.token.TokenKind.TheVariants.{Name, LeftParen, Equal}
+use Rattle.ms_text.specs.declared.token.TokenKind.TheVariants.{Name, LeftParen}
 use Rattle.ms_grammar.specs.declared.value.Value.{Value}
 use Rattle.ms_grammar.specs.declared.part.ValuePart.{ValuePart}
-use Rattle.ms_grammar.specs.Words.{Word, name, number, sign}
+use Rattle.ms_grammar.specs.Words.{Word, name, number}
 use Rattle.ms_call.specs.declared.command.Call.{Call}
 use Rattle.ms_call.specs.declared.command.Truth.{Truth}
 use Rattle.ms_call.specs.declared.command.Truth.TheVariants.{True, False, Free}
 use Rattle.ms_call.specs.declared.command.Assumption.{Assumption}
-use Rattle.ms_call.specs.Commands.{most_answers, usual_limit, greatest_limit}
+use Rattle.ms_call.specs.declared.command.Command.{Command}
+use Rattle.ms_call.specs.declared.command.Command.TheVariants.{Release}
+use Rattle.ms_call.specs.Commands.{most_answers}
 
 abbrev pub name_in : Word → Option (List ℕ)
 name_in (name n) = Some n
@@ -61,15 +63,6 @@ call_with f tokens (Some found) = if carries_on (drop (length tokens - found.1) 
 abbrev pub count_in : Word → Option ℕ
 count_in w = if is_name (codes "all") w then Some most_answers else number_in most_answers w
 
--- the limit that stands in front, and the words behind it
-abbrev pub limit_by : Word → Word → List Word → Option ℕ → ℕ × List Word
-limit_by word n rest None = (usual_limit, word ∷ sign Equal ∷ n ∷ rest)
-limit_by word n rest (Some limit) = (limit, rest)
-
-abbrev pub limit_in : List Word → ℕ × List Word
-limit_in (word ∷ sign Equal ∷ n ∷ rest) = limit_by word n rest (if is_name (codes "limit") word then number_in greatest_limit n else None)
-limit_in ws = (usual_limit, ws)
-
 abbrev pub truth_by : Word → Option Truth
 truth_by w =
     if is_name (codes "true") w then Some True else
@@ -87,3 +80,8 @@ plain found = option_map (λ f. (record { atom = f.0; truth = true }, f.1)) foun
 
 abbrev pub negated : Option (Value × ℕ) → Option (Assumption × ℕ)
 negated found = option_map (λ f. (record { atom = f.0; truth = false }, f.1 + 1)) found
+
+-- the release of an atom that was found, where it has all of the words
+abbrev pub release : Option (Value × ℕ) → ℕ → Option Command
+release None len = None
+release (Some found) len = if found.1 == len then Some (Release found.0) else None

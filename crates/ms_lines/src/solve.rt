@@ -1,12 +1,15 @@
 // What follows `@solve`.
-ghost use Rattle.std.specs.Prelude.{◌≡◌, ◌≤◌, length, codes, IfOk};
+ghost use Rattle.std.specs.Prelude.{◌≡◌, ◌≤◌, length, codes, IfOk, MatchOption};
+ghost use Rattle.std.specs.Option.{option_map};
 ghost use Rattle.ms_text.specs.Tokens.{LieWithin};
 ghost use Rattle.ms_grammar.specs.Words.{word_of, words_of};
 ghost use Rattle.ms_call.specs.Commands.{IsSaid, IsAssume};
 ghost use Rattle.ms_lines.specs.Finding.{Finds};
-ghost use Rattle.ms_lines.specs.Words.{count_in, limit_in};
+ghost use Rattle.ms_lines.specs.Words.{count_in};
+ghost use Rattle.ms_lines.specs.Limits.{HasLimit, HasNoLimit, LimitIs};
 
 use crate::literals::read_literals;
+use crate::signs::{after_name, after_sign};
 use crate::words::{is_name, number_in};
 use ms_base::memory::OutOfMemory;
 use ms_call::command::{Assumptions, Command};
@@ -39,11 +42,17 @@ pub(crate) fn read_solve(
     };
     let Limit { limit, rest } = read_limit(text, after);
     let assume = read_assume(alloc, text, rest)?;
-    Ok(assume.map(|assume| Command::Solve {
+    Ok(solve(count, limit, assume))
+}
+
+fn solve(count: u64, limit: u64, assume: Option<Assumptions>) -> Option<Command>
+    ensures { result ≡ option_map (Command.Solve count limit) assume }
+{
+    Some(Command::Solve {
         count,
         limit,
-        assume,
-    }))
+        assume: assume?,
+    })
 }
 
 /// How many answers a token asks for.
@@ -68,20 +77,37 @@ struct Limit<'a> {
 /// `limit=L`, or nothing.
 fn read_limit<'a>(text: &[u8], tokens: &'a [Token]) -> Limit<'a>
     requires { LieWithin (length text.now) tokens.now }
-    ensures said { (result.limit, words_of text.now result.rest.now) ≡ limit_in (words_of text.now tokens.now) }
+    ensures said { LimitIs (words_of text.now tokens.now) result.limit (words_of text.now result.rest.now) }
     ensures within { LieWithin (length text.now) result.rest.now }
 {
-    if let [word, equal, number, rest @ ..] = tokens {
-        if matches!(equal.kind, TokenKind::Equal) && is_name(text, *word, b"limit") {
-            if let Some(limit) = number_in(text, *number, GREATEST_LIMIT) {
-                return Limit { limit, rest };
-            }
-        }
+    match limit_at(text, tokens) {
+        Some(limit) => limit,
+        None => Limit {
+            limit: USUAL_LIMIT,
+            rest: tokens,
+        },
     }
-    Limit {
-        limit: USUAL_LIMIT,
-        rest: tokens,
-    }
+}
+
+/// `limit=L`
+fn limit_at<'a>(text: &[u8], tokens: &'a [Token]) -> Option<Limit<'a>>
+    requires { LieWithin (length text.now) tokens.now }
+    ensures { MatchOption result (HasNoLimit (words_of text.now tokens.now))
+        (λ found. HasLimit (words_of text.now tokens.now) found.limit (words_of text.now found.rest.now) × LieWithin (length text.now) found.rest.now) }
+{
+    let Some(behind) = after_name(text, tokens, b"limit") else {
+        return None;
+    };
+    let Some(after) = after_sign(behind, TokenKind::Equal) else {
+        return None;
+    };
+    let Some((number, rest)) = after.split_first() else {
+        return None;
+    };
+    let Some(limit) = number_in(text, *number, GREATEST_LIMIT) else {
+        return None;
+    };
+    Some(Limit { limit, rest })
 }
 
 /// `with` and one or more literals, or nothing.
@@ -93,9 +119,11 @@ fn read_assume(
     requires { LieWithin (length text.now) tokens.now }
     ensures { IfOk result (Finds (IsAssume (words_of text.now tokens.now))) }
 {
-    match tokens {
-        [] => Ok(Some(Assumptions::new(alloc))),
-        [first, after @ ..] if is_name(text, *first, b"with") => read_literals(alloc, text, after),
-        _ => Ok(None),
+    if tokens.is_empty() {
+        return Ok(Some(Assumptions::new(alloc)));
+    }
+    match after_name(text, tokens, b"with") {
+        Some(after) => read_literals(alloc, text, after),
+        None => Ok(None),
     }
 }
