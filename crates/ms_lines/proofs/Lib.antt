@@ -6,3 +6,5 @@ pub mod SignLemmas
 pub mod Scanning
 pub mod ArgumentFronts
 pub mod CallFronts
+pub mod NameLemmas
+pub mod SolveLemmas

@@ -15,6 +15,10 @@ pub no_words : (first rest : List Word) → [] ≡ first ++ rest → first ≡ [
 no_words [] rest e = refl
 no_words (w ∷ ws) rest e = absurd (cons-not-nil w (ws ++ rest) (sym e))
 
+pub no_tokens : (text : List ℕ) (ts : List Token) → words_of text ts ≡ [] → ts ≡ []
+no_tokens text [] h = refl
+no_tokens text (t ∷ ts) h = absurd (cons-not-nil _ (words_of text ts) h)
+
 module _ {V : Type 0} (Is : List Word → V → Type 0) where
   -- These stand before the rest: what all of the words are, is they and what the rest is.
   pub record GoesOn (all : List Word) (before : List V) (rest : List Word) : Type 0 where
@@ -80,12 +84,8 @@ module _ {V : Type 0} (Is : List Word → V → Type 0) where
       rest_words : drop f.1 (words_of text rest) ≡ words_of text after
       rest_words = words_of-drop text f.1 rest ∙ ap (words_of text) (sym e)
 
-      no_tokens : (ts : List Token) → words_of text ts ≡ [] → ts ≡ []
-      no_tokens [] h = refl
-      no_tokens (t ∷ ts) h = absurd (cons-not-nil _ (words_of text ts) h)
-
       pub goes_more : (after ≡ [] → ⊥) → GoesOn all (before ++ f.0 ∷ []) (words_of text after)
-      goes_more more = subst (GoesOn all (before ++ f.0 ∷ [])) rest_words (more_words all before (words_of text rest) goes f found (λ h. more (no_tokens after (sym rest_words ∙ h))))
+      goes_more more = subst (GoesOn all (before ++ f.0 ∷ [])) rest_words (more_words all before (words_of text rest) goes f found (λ h. more (no_tokens text after (sym rest_words ∙ h))))
 
       pub goes_last : after ≡ [] → IsOnly (AreSome Is all) (before ++ f.0 ∷ [])
       goes_last last = last_words all before (words_of text rest) goes f found (rest_words ∙ ap (words_of text) last)

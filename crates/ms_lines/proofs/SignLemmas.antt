@@ -45,3 +45,7 @@ after_shorter kind tokens rest b = ap length b.tokens_are
 -- the tokens after the first ones
 pub drop_within : (n count : ℕ) (tokens rest : List Token) → rest ≡ drop count tokens → LieWithin n tokens → LieWithin n rest
 drop_within n count tokens rest e h = subst (LieWithin n) (sym e) (All-drop (LiesWithin n) count tokens h)
+
+-- a first token
+pub first_within : (n : ℕ) (first : Token) (rest tokens : List Token) → tokens ≡ first ∷ rest → LieWithin n tokens → (first.start ≤ first.end) × (first.end ≤ n)
+first_within n first rest tokens e h = (subst (LieWithin n) e h) 0 first (omega arith)

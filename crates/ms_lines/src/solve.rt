@@ -1,5 +1,5 @@
 // What follows `@solve`.
-ghost use Rattle.std.specs.Prelude.{◌≡◌, ◌≤◌, length, codes, IfOk, MatchOption};
+ghost use Rattle.std.specs.Prelude.{◌≡◌, ◌≤◌, length, drop, codes, IfOk, MatchOption};
 ghost use Rattle.std.specs.Option.{option_map};
 ghost use Rattle.ms_text.specs.Tokens.{LieWithin};
 ghost use Rattle.ms_grammar.specs.Words.{word_of, words_of};
@@ -9,7 +9,7 @@ ghost use Rattle.ms_lines.specs.Words.{count_in};
 ghost use Rattle.ms_lines.specs.Limits.{HasLimit, HasNoLimit, LimitIs};
 
 use crate::literals::read_literals;
-use crate::signs::{after_name, after_sign};
+use crate::signs::{after_name, after_sign, tokens_after};
 use crate::words::{is_name, number_in};
 use ms_base::memory::OutOfMemory;
 use ms_call::command::{Assumptions, Command};
@@ -40,8 +40,8 @@ pub(crate) fn read_solve(
     let Some(count) = count_of(text, *first) else {
         return Ok(None);
     };
-    let Limit { limit, rest } = read_limit(text, after);
-    let assume = read_assume(alloc, text, rest)?;
+    let Limit { limit, len } = read_limit(text, after);
+    let assume = read_assume(alloc, text, tokens_after(after, len))?;
     Ok(solve(count, limit, assume))
 }
 
@@ -67,33 +67,33 @@ fn count_of(text: &[u8], token: Token) -> Option<u64>
     number_in(text, token, MOST_ANSWERS)
 }
 
-/// How many conflicts are allowed, and the tokens behind what says so.
+/// How many conflicts are allowed, and how many tokens say so.
 #[derive(Clone, Copy)]
-struct Limit<'a> {
+struct Limit {
     limit: u64,
-    rest: &'a [Token],
+    len: usize,
 }
 
 /// `limit=L`, or nothing.
-fn read_limit<'a>(text: &[u8], tokens: &'a [Token]) -> Limit<'a>
+fn read_limit(text: &[u8], tokens: &[Token]) -> Limit
     requires { LieWithin (length text.now) tokens.now }
-    ensures said { LimitIs (words_of text.now tokens.now) result.limit (words_of text.now result.rest.now) }
-    ensures within { LieWithin (length text.now) result.rest.now }
+    ensures said { LimitIs (words_of text.now tokens.now) result.limit (words_of text.now (drop result.len tokens.now)) }
+    ensures within { result.len ≤ length tokens.now }
 {
     match limit_at(text, tokens) {
-        Some(limit) => limit,
+        Some(limit) => Limit { limit, len: 3 },
         None => Limit {
             limit: USUAL_LIMIT,
-            rest: tokens,
+            len: 0,
         },
     }
 }
 
-/// `limit=L`
-fn limit_at<'a>(text: &[u8], tokens: &'a [Token]) -> Option<Limit<'a>>
+/// `limit=L` in front, which is three tokens.
+fn limit_at(text: &[u8], tokens: &[Token]) -> Option<u64>
     requires { LieWithin (length text.now) tokens.now }
     ensures { MatchOption result (HasNoLimit (words_of text.now tokens.now))
-        (λ found. HasLimit (words_of text.now tokens.now) found.limit (words_of text.now found.rest.now) × LieWithin (length text.now) found.rest.now) }
+        (λ limit. HasLimit (words_of text.now tokens.now) limit (words_of text.now (drop 3 tokens.now)) × (3 ≤ length tokens.now)) }
 {
     let Some(behind) = after_name(text, tokens, b"limit") else {
         return None;
@@ -101,13 +101,10 @@ fn limit_at<'a>(text: &[u8], tokens: &'a [Token]) -> Option<Limit<'a>>
     let Some(after) = after_sign(behind, TokenKind::Equal) else {
         return None;
     };
-    let Some((number, rest)) = after.split_first() else {
+    let Some((number, _rest)) = after.split_first() else {
         return None;
     };
-    let Some(limit) = number_in(text, *number, GREATEST_LIMIT) else {
-        return None;
-    };
-    Some(Limit { limit, rest })
+    number_in(text, *number, GREATEST_LIMIT)
 }
 
 /// `with` and one or more literals, or nothing.
