@@ -8,3 +8,4 @@ pub mod ArgumentFronts
 pub mod CallFronts
 pub mod NameLemmas
 pub mod SolveLemmas
+pub mod CommandLemmas
