@@ -3,7 +3,7 @@ use Rattle.ms_lines.proofs.SignLemmas.{drop_within}
 use Rattle.ms_lines.proofs.commands.read_assign.Goals as goal
 
 pub returns-in_default : goal.returns-in_default
-returns-in_default c = assign_none c.args.text.now c.args.tokens.now _ c.in_ok-read_atom.ensures.found c.in_default.is
+returns-in_default c = assign_none c.args.text.now c.args.tokens.now _ c.in_ok-atom.ensures.found c.in_default.is
 
-pub returns-in-Some : goal.returns-in-Some
-returns-in-Some c = assign_read c.args.text.now c.args.tokens.now _ c.in_ok-read_atom.ensures.found _ c.in-Some.is _ c.tokens_after-after.ensures _ c.read_truth.ensures _ c.assign.ensures
+pub returns : goal.returns
+returns c = assign_read c.args.text.now c.args.tokens.now _ c.in_ok-atom.ensures.found _ c.in-Some.is _ c.tokens_after-after.ensures _ c.read_truth.ensures _ c.assign.ensures
