@@ -9,3 +9,4 @@ pub mod CallFronts
 pub mod NameLemmas
 pub mod SolveLemmas
 pub mod CommandLemmas
+pub mod LineKinds
