@@ -1,10 +1,10 @@
 -- What a line outside a text is.
-use Rattle.std.proofs.Common.{◌≡◌, ◌≢◌, ℕ, zero, suc, ◌+◌, Bool, true, false, ◌||◌, cond, eqb, List, [], ◌∷◌, length, drop, take_while, Option, Some, None, Result, Ok, Err, IfOk, refl, sym, ap, ◌∙◌, subst, one-add, eqb-true}
-use Rattle.std.specs.Prelude.{codes, nat_eq}
+use Rattle.std.proofs.Common.{◌≡◌, ◌≢◌, ℕ, zero, suc, ◌+◌, Bool, true, false, ◌||◌, cond, eqb, List, [], ◌∷◌, length, take, drop, take_while, Option, Some, None, Result, Ok, Err, IfOk, refl, sym, ap, ◌∙◌, subst, one-add, eqb-true, arith}
+use Rattle.std.specs.Prelude.{codes, nat_eq, ◌==◌, ◌&&◌}
 use Rattle.std.specs.List.{prefix_len}
 use Rattle.std.specs.Cmp.Lexicographic.{pointwise}
 use Rattle.std.proofs.lemmas.List.Folds.{length-prefix_len}
-use Rattle.std.proofs.lemmas.Bool.{true≢false, false≢true}
+use Rattle.std.proofs.lemmas.Bool.{true≢false, false≢true, and_parts}
 use Rattle.ms_text.specs.declared.token.Token.{Token}
 use Rattle.ms_text.specs.declared.token.BadByte.{BadByte}
 use Rattle.ms_text.specs.Tokens.{is_word, is_blank, tokens_of, tokens_from, line_after}
@@ -31,11 +31,18 @@ space_blank b e = space_by b (eqb b 32) refl e
 skipped_front : (bytes : List ℕ) → skipped is_space bytes ≡ drop (prefix_len is_space bytes) bytes
 skipped_front bytes = ap (λ n. drop n bytes) (length-prefix_len is_space bytes)
 
+err-not-ok : (bad : BadByte) (ts : List Token) → Err bad ≡ Ok ts → ⊥
+err-not-ok bad ts e = cc
+
+at_sign_bad : (bs : List ℕ) (at line : ℕ) → tokens_from 0 (64 ∷ bs) at line ≡ Ok [] → ⊥
+unfolding tokens_from
+at_sign_bad bs at line e = err-not-ok (record { at = at; line = line }) [] e
+
 module _ (after : List ℕ) where
   at_sign_by : (b : ℕ) (bs : List ℕ) (at line : ℕ) → (drop (prefix_len is_space bs) bs ≡ 64 ∷ after → (at line : ℕ) → tokens_from 0 bs at line ≡ Ok [] → ⊥) → (s : Bool) → is_space b ≡ s → drop (prefix_len is_space (b ∷ bs)) (b ∷ bs) ≡ 64 ∷ after → tokens_from 0 (b ∷ bs) at line ≡ Ok [] → ⊥
   unfolding tokens_from
-  at_sign_by b bs at line h true e sign none = h (rw (e, one-add) at sign) (suc at) (line_after b line) (rw (space_blank b e) at none)
-  at_sign_by b bs at line h false e sign none = let byte : b ≡ 64 = let whole : b ∷ bs ≡ 64 ∷ after = rw e at sign in cc in let f : ⊥ = rw byte at none in f
+  at_sign_by b bs at line h true e sign none = h (rw (e, one-add) at sign) (suc at) (line_after b line) (rw (tokens_from, space_blank b e) at none)
+  at_sign_by b bs at line h false e sign none = let byte : b ≡ 64 = let whole : b ∷ bs ≡ 64 ∷ after = rw e at sign in cc in at_sign_bad bs at line (subst (λ x. tokens_from 0 (x ∷ bs) at line ≡ Ok []) byte none)
 
   at_sign_token : (line : List ℕ) → drop (prefix_len is_space line) line ≡ 64 ∷ after → (at number : ℕ) → tokens_from 0 line at number ≡ Ok [] → ⊥
   at_sign_token [] sign at number none = cons-not-nil 64 after (sym sign)
@@ -62,7 +69,7 @@ module _ (line word text : List ℕ) (tokens : List Token) (has : HasWord line w
       let whole : 64 ∷ other.after ≡ 64 ∷ has.after = sym other.at_sign ∙ has.at_sign in
       let after : other.after ≡ has.after = cc in
       let rests : r ≡ text = other.rest_is ∙ ap (skipped is_word) after ∙ sym has.rest_is in
-      let lexed : Ok {E = BadByte} ts ≡ Ok tokens = sym other.tokens_are ∙ ap tokens_of rests ∙ has.tokens_are in
+      let lexed : ◌≡◌ {A = Result (List Token) BadByte} (Ok ts) (Ok tokens) = sym other.tokens_are ∙ ap tokens_of rests ∙ has.tokens_are in
       let all : ts ≡ tokens = cc in
       (other.word_is ∙ ap (take_while is_word) after ∙ sym has.word_is, rests, all)
 
@@ -165,3 +172,37 @@ module _ (line : List ℕ) (no_sign : HasNoSign line) where
          not_command = λ command is. unsigned_word is.word is.rest is.tokens is.has_word;
        },
        unsigned_only h)
+
+-- the word and the text after it, as they are cut
+module _ (after : List ℕ) (len : ℕ) (e : len ≡ length (take_while is_word after)) where
+  cut_len : len ≡ prefix_len is_word after
+  cut_len = e ∙ length-prefix_len is_word after
+
+  pub cut_text : (text : List ℕ) → text ≡ drop len after → text ≡ skipped is_word after
+  cut_text text back = back ∙ ap (λ n. drop n after) e
+
+  cut_word : (word : List ℕ) → word ≡ take len after → word ≡ take_while is_word after
+  cut_word word front = front ∙ ap (λ n. take n after) cut_len
+
+  pub kind_of_cut : {E : Type 0} (word text : List ℕ) → word ≡ take len after → text ≡ drop len after → (tokens : List Token) → tokens_of text ≡ Ok tokens → (r : Result LineKind E)
+      → IfOk r (λ kind. (line : List ℕ) → HasWord line word text tokens → IsOnly (IsKind line) kind) → IfOk r (λ kind. (line : List ℕ) → skipped is_space line ≡ 64 ∷ after → IsOnly (IsKind line) kind)
+  kind_of_cut word text front back tokens lexed (Ok kind) h = λ line sign. h line (record { after = after; at_sign = sign; word_is = cut_word word front; rest_is = cut_text text back; tokens_are = lexed })
+  kind_of_cut word text front back tokens lexed (Err error) h = tt
+
+  pub bad_of_cut : (text : List ℕ) → text ≡ drop len after → (bad : BadByte) → tokens_of text ≡ Err bad → (line : List ℕ) → skipped is_space line ≡ 64 ∷ after → IsOnly (IsKind line) Bad
+  bad_of_cut text back bad lexed line sign = bad_byte line after sign bad (ap tokens_of (sym (cut_text text back)) ∙ lexed)
+
+-- whether a line is `@add` alone
+module _ (word : List ℕ) (tokens : List Token) (b : Bool) (e : b ≡ pointwise nat_eq word (codes "add") && (length tokens == 0)) where
+  pub is_add_word : b ≡ true → word ≡ codes "add"
+  is_add_word t = same_text word (codes "add") (and_parts (pointwise nat_eq word (codes "add")) (length tokens == 0) (sym e ∙ t)).0
+
+  empty_tokens : (ts : List Token) → length ts ≡ 0 → ts ≡ []
+  empty_tokens [] h = refl
+  empty_tokens (t ∷ ts) h = absurd (omega arith)
+
+  pub is_add_alone : b ≡ true → tokens ≡ []
+  is_add_alone t = empty_tokens tokens (eqb-true (length tokens) 0 (and_parts (pointwise nat_eq word (codes "add")) (length tokens == 0) (sym e ∙ t)).1)
+
+  pub is_no_add : b ≡ false → word ≡ codes "add" → tokens ≡ [] → ⊥
+  is_no_add f w t = false≢true (sym f ∙ e ∙ ap (λ ts. pointwise nat_eq word (codes "add") && (length ts == 0)) t ∙ ap (λ u. pointwise nat_eq u (codes "add") && true) w)

@@ -1,5 +1,6 @@
 // What a line outside a text is.
-ghost use Rattle.std.specs.Prelude.{ℕ, ◌≡◌, ◌≤◌, ◌↔◌, List, length, take_while, [], ◌∷◌, Ok, IfOk, IsTrue};
+ghost use Rattle.std.specs.Prelude.{ℕ, ◌≡◌, ◌==◌, ◌&&◌, ◌≤◌, ◌↔◌, nat_eq, codes, List, length, take_while, [], ◌∷◌, Ok, IfOk, IsTrue};
+ghost use Rattle.std.specs.Cmp.Lexicographic.{pointwise};
 ghost use Rattle.ms_text.specs.Tokens.{tokens_of, LieWithin};
 ghost use Rattle.ms_call.specs.Lines.{is_space, skipped, HasWord};
 ghost use Rattle.ms_lines.specs.Finding.{IsOnly};
@@ -78,13 +79,20 @@ fn kind_by_tokens(
     requires { LieWithin (length text.now) tokens.now }
     ensures { IfOk result (λ kind. (line : List ℕ) → HasWord line word.now text.now tokens.now → IsOnly (IsKind line) kind) }
 {
-    if word == b"add".as_slice() && tokens.is_empty() {
+    if is_add(word, tokens) {
         return Ok(LineKind::OpensText);
     }
     match read_command(alloc, word, text, tokens)? {
         Some(command) => Ok(LineKind::Command(command)),
         None => Ok(LineKind::Bad),
     }
+}
+
+/// Whether the word is `add` and nothing stands after it.
+fn is_add(word: &[u8], tokens: &[Token]) -> bool
+    ensures { result ≡ pointwise nat_eq word.now (codes "add") && (length tokens.now == 0) }
+{
+    word == b"add".as_slice() && tokens.is_empty()
 }
 
 /// The line without the spaces and tabs at its front.
