@@ -10,3 +10,4 @@ pub mod NameLemmas
 pub mod SolveLemmas
 pub mod CommandLemmas
 pub mod LineKinds
+pub mod LineSteps

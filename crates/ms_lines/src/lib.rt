@@ -4,7 +4,7 @@
 ghost use Rattle.std.specs.Prelude.{◌≡◌, ◌↔◌, ◌<◌, ◌++◌, [], None, length, take, IfOk, OnOk, OnErr, IsTrue, IsSome};
 ghost use Rattle.ms_call.specs.Items.{Says};
 ghost use Rattle.ms_lines.specs.Finding.{IsOnly};
-ghost use Rattle.ms_lines.specs.Buffers.{IsLineLen, HasNoLine};
+ghost use Rattle.ms_lines.specs.Buffers.{IsLineLen, HasNoLine, IsEndOf};
 ghost use Rattle.ms_lines.specs.Feeding.{item_of, SaysThen, SaysAtEnd};
 
 mod arguments;
@@ -68,6 +68,7 @@ impl Lines {
     pub fn next_command(&mut self, alloc: Global) -> Result<Fed, OutOfMemory>
         ensures said { IfOk result (λ fed. SaysThen self.old (item_of fed) self.new) }
         ensures whole { IfOk result (λ fed. item_of fed ≡ None → HasNoLine self.new.rest) }
+        ensures kept { IsEndOf self.old.rest self.new.rest }
         ensures err { OnErr result (SaysThen self.old None self.new) }
     {
         while let Some(len) = self.rest.line_len() {
@@ -117,6 +118,7 @@ impl Lines {
         requires { IsLineLen self.old.rest len }
         ensures said { IfOk result (λ fed. SaysThen self.old (item_of fed) self.new) }
         ensures shorter { OnOk result (length self.new.rest < length self.old.rest) }
+        ensures kept { IsEndOf self.old.rest self.new.rest }
         ensures err { OnErr result (self.new ≡ self.old) }
     {
         let fed = read_line(alloc, &mut self.text, self.rest.bytes(), len)?;
