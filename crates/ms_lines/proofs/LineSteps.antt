@@ -48,6 +48,12 @@ module _ (line : List ℕ) where
   pub says_by_end : (text : List ℕ) (said : Option Item × Open) → said ≡ text_says (ends_text line) text line → IsOnly (Says (Some text) line) said
   says_by_end text said e = (e, λ other is. is ∙ sym e)
 
+  pub goes_on : (text next : List ℕ) → ends_text line ≡ false → next ≡ text ++ (line ++ 10 ∷ []) → IsOnly (Says (Some text) line) (None, Some next)
+  goes_on text next e q = says_by_end text (None, Some next) (ap (λ t. (None, Some t)) (q ∙ sym (append_assoc text line (10 ∷ []))) ∙ ap (λ b. text_says b text line) (sym e))
+
+  pub said_as : (kind known : LineKind) → IsOnly (IsKind line) kind → kind ≡ known → (left : Open) → left ≡ (said_of known).1 → IsOnly (Says None line) ((said_of known).0, left)
+  said_as kind known h e left q = subst (λ l. IsOnly (Says None line) ((said_of known).0, l)) (sym q) (says_by_kind known (subst (IsOnly (IsKind line)) e h))
+
 -- the first line with its line end
 stops_by : (b : ℕ) (t : Bool) → eqb b 10 ≡ t → is_in_line b ≡ false → b ≡ 10
 stops_by b true h e = eqb-true b 10 h
@@ -66,7 +72,7 @@ module _ (ended : Bool) (more : List ℕ) where
       → (t : Bool) → eqb b 10 ≡ t → prefix_len is_in_line (b ∷ bs) < length (b ∷ bs)
       → lines_in ended (b ∷ bs ++ more) ≡ take (prefix_len is_in_line (b ∷ bs)) (b ∷ bs) ∷ lines_in ended (drop (suc (prefix_len is_in_line (b ∷ bs))) (b ∷ bs) ++ more)
   unfolding lines_in
-  first_by b bs h true e le = rw e refl
+  first_by b bs h true e le = rw (lines_in, e) refl
   first_by b bs h false e le =
       let here : prefix_len is_in_line (b ∷ bs) ≡ suc (prefix_len is_in_line bs) = rw (e, one-add) refl in
       rw (here, lines_in, e, h (omega (arith, le, here))) refl
