@@ -1,5 +1,5 @@
 -- One line after another.
-use Rattle.std.proofs.Common.{◌≡◌, ◌≢◌, ℕ, zero, suc, ◌+◌, ◌<◌, ◌≤◌, Bool, true, false, eqb, List, [], ◌∷◌, ◌++◌, length, take, drop, get_or, inl, inr, ◌⊎◌, ◌↔◌, Option, Some, None, refl, sym, ap, ◌∙◌, subst, arith, one-add, add-one, append-nil, append_assoc, length-append, eqb-true}
+use Rattle.std.proofs.Common.{◌≡◌, ◌≢◌, ℕ, zero, suc, ◌+◌, ◌<◌, ◌≤◌, Bool, true, false, eqb, List, [], ◌∷◌, ◌++◌, length, take, drop, get_or, inl, inr, ◌⊎◌, ◌↔◌, Option, Some, None, refl, sym, ap, ◌∙◌, subst, arith, one-add, add-one, append-nil, append_assoc, length-append, eqb-true, take-append-drop}
 use Rattle.std.specs.List.{prefix_len}
 use Rattle.std.proofs.lemmas.Bool.{true≢false, false≢true}
 use Rattle.std.proofs.lemmas.List.{take_more}
@@ -12,7 +12,7 @@ use Rattle.ms_lines.specs.declared.Lines.{Lines}
 use Rattle.ms_lines.specs.declared.kinds.LineKind.{LineKind}
 use Rattle.ms_lines.specs.declared.kinds.LineKind.TheVariants.{Passed, OpensText as opens_text, Command as is_command, Bad}
 use Rattle.ms_lines.specs.Kinds.{IsKind}
-use Rattle.ms_lines.specs.Buffers.{IsLineLen, HasNoLine}
+use Rattle.ms_lines.specs.Buffers.{IsLineLen, HasNoLine, IsEndOf}
 use Rattle.ms_lines.specs.Feeding.{SaysThen, SaysAtEnd, HasLeft}
 use Rattle.ms_lines.specs.Finding.{IsOnly}
 
@@ -180,3 +180,13 @@ last_part (x ∷ front) part (b ∷ bs) e = let rest : bs ++ 10 ∷ [] ≡ front
 
 pub all_read : (front part bytes : List ℕ) → bytes ++ 10 ∷ [] ≡ front ++ part → HasNoLine part → part ≡ []
 all_read front part bytes e none = elim (last_part front part bytes e) [ inl h ↦ h | inr h ↦ absurd (no_line_ends part none h.0 h.1) ]
+
+-- what is kept of the bytes
+pub ends_itself : (bytes : List ℕ) → IsEndOf bytes bytes
+ends_itself bytes = ([], refl)
+
+pub end_of_end : (first second third : List ℕ) → IsEndOf first second → IsEndOf second third → IsEndOf first third
+end_of_end first second third a b = (a.0 ++ b.0, a.1 ∙ ap (λ xs. a.0 ++ xs) b.1 ∙ sym (append_assoc a.0 b.0 third))
+
+pub end_dropped : (bytes last : List ℕ) (n : ℕ) → last ≡ drop n bytes → IsEndOf bytes last
+end_dropped bytes last n e = (take n bytes, sym (ap (λ xs. take n bytes ++ xs) e ∙ take-append-drop n bytes))
