@@ -13,7 +13,9 @@ use Rattle.ms_lines.specs.declared.kinds.LineKind.{LineKind}
 use Rattle.ms_lines.specs.declared.kinds.LineKind.TheVariants.{Passed, OpensText as opens_text, Command as is_command, Bad}
 use Rattle.ms_lines.specs.Kinds.{IsKind}
 use Rattle.ms_lines.specs.Buffers.{IsLineLen, HasNoLine, IsEndOf}
-use Rattle.ms_lines.specs.Feeding.{SaysThen, SaysAtEnd, HasLeft}
+use Rattle.ms_lines.specs.declared.Fed.{Fed}
+use Rattle.ms_lines.specs.declared.Fed.TheVariants.{Command as is_fed, BadCommand, NotYet}
+use Rattle.ms_lines.specs.Feeding.{SaysThen, SaysAtEnd, HasLeft, item_of}
 use Rattle.ms_lines.specs.Finding.{IsOnly}
 
 -- what a line says outside of a text, by its kind
@@ -190,3 +192,17 @@ end_of_end first second third a b = (a.0 ++ b.0, a.1 ∙ ap (λ xs. a.0 ++ xs) b
 
 pub end_dropped : (bytes last : List ℕ) (n : ℕ) → last ≡ drop n bytes → IsEndOf bytes last
 end_dropped bytes last n e = (take n bytes, sym (ap (λ xs. take n bytes ++ xs) e ∙ take-append-drop n bytes))
+
+-- one line further
+module _ (first here third : Lines) (rest : List ℕ) (same : rest ≡ here.rest) where
+  pub says_on : SaysThen first None here → (item : Option Item) → SaysThen (record { text = here.text; rest = rest }) item third → SaysThen first item third
+  says_on a item b = says_later first here third item a (subst (λ r. SaysThen (record { text = here.text; rest = r }) item third) same b)
+
+  pub ends_on : IsEndOf first.rest here.rest → IsEndOf rest third.rest → IsEndOf first.rest third.rest
+  ends_on a b = end_of_end first.rest here.rest third.rest a (subst (λ r. IsEndOf r third.rest) same b)
+
+-- only `NotYet` is no item
+pub no_item : (fed : Fed) → item_of fed ≡ None → fed ≡ NotYet
+no_item (is_fed c) e = absurd (let f : ⊥ = cc in f)
+no_item BadCommand e = absurd (let f : ⊥ = cc in f)
+no_item NotYet e = refl
