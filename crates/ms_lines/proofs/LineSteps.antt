@@ -1,5 +1,5 @@
 -- One line after another.
-use Rattle.std.proofs.Common.{◌≡◌, ◌≢◌, ℕ, zero, suc, ◌+◌, ◌<◌, ◌≤◌, Bool, true, false, eqb, List, [], ◌∷◌, ◌++◌, length, take, drop, get_or, inl, inr, ◌⊎◌, ◌↔◌, Option, Some, None, refl, sym, ap, ◌∙◌, subst, arith, one-add, add-one, append-nil, append_assoc, length-append, eqb-true, take-append-drop}
+use Rattle.std.proofs.Common.{◌≡◌, ◌≢◌, ℕ, zero, suc, ◌+◌, ◌<◌, ◌≤◌, Bool, true, false, eqb, List, [], ◌∷◌, ◌++◌, length, take, drop, get_or, inl, inr, ◌⊎◌, ◌↔◌, Option, Some, None, Result, Ok, Err, IfOk, OnErr, refl, sym, ap, ◌∙◌, subst, arith, one-add, add-one, append-nil, append_assoc, length-append, eqb-true, take-append-drop}
 use Rattle.std.specs.List.{prefix_len}
 use Rattle.std.proofs.lemmas.Bool.{true≢false, false≢true}
 use Rattle.std.proofs.lemmas.List.{take_more}
@@ -206,3 +206,31 @@ pub no_item : (fed : Fed) → item_of fed ≡ None → fed ≡ NotYet
 no_item (is_fed c) e = absurd (let f : ⊥ = cc in f)
 no_item BadCommand e = absurd (let f : ⊥ = cc in f)
 no_item NotYet e = refl
+
+-- what a call answered that went on from a middle state
+module _ {E : Type 0} (r : Result Fed E) (before middle after : Lines) (start : SaysAtEnd before None middle) where
+  said_by : (r : Result Fed E) → IfOk r (λ fed. SaysAtEnd middle (item_of fed) after) → IfOk r (λ fed. SaysAtEnd before (item_of fed) after)
+  said_by (Ok fed) h = at_end_later before middle after (item_of fed) start h
+  said_by (Err e) h = tt
+
+  err_by : (r : Result Fed E) → OnErr r (SaysAtEnd middle None after) → OnErr r (SaysAtEnd before None after)
+  err_by (Ok fed) h = tt
+  err_by (Err e) h = at_end_later before middle after None start h
+
+  pub said_after : IfOk r (λ fed. SaysAtEnd middle (item_of fed) after) → IfOk r (λ fed. SaysAtEnd before (item_of fed) after)
+  said_after = said_by r
+
+  pub err_after : OnErr r (SaysAtEnd middle None after) → OnErr r (SaysAtEnd before None after)
+  err_after = err_by r
+
+pub ended_said : {E : Type 0} (r : Result Fed E) (before after : Lines) → IfOk r (λ fed. SaysThen before (item_of fed) after) → IfOk r (λ fed. SaysAtEnd before (item_of fed) after)
+ended_said (Ok fed) before after h = says_at_end before after (item_of fed) h
+ended_said (Err e) before after h = tt
+
+pub ended_err : {E : Type 0} (r : Result Fed E) (before after : Lines) → OnErr r (SaysThen before None after) → OnErr r (SaysAtEnd before None after)
+ended_err (Ok fed) before after h = tt
+ended_err (Err e) before after h = says_at_end before after None h
+
+pub ended_all : {E : Type 0} (r : Result Fed E) (bytes pushed last : List ℕ) → pushed ≡ bytes ++ 10 ∷ [] → IsEndOf pushed last → IfOk r (λ fed. item_of fed ≡ None → HasNoLine last) → IfOk r (λ fed. item_of fed ≡ None → last ≡ [])
+ended_all (Ok fed) bytes pushed last e k h = λ none. all_read k.0 last bytes (sym e ∙ k.1) (h none)
+ended_all (Err e) bytes pushed last q k h = tt
