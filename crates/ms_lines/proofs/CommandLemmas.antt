@@ -113,18 +113,22 @@ module _ (ws : List Word) (f : Value × ℕ) (only : IsOnly (IsFront IsAtom ws) 
 
   assign_by : (found : Option Truth) → truth_in (drop f.1 ws) ≡ found → Finds (IsSaid (codes "assign") ws) (option_map (Assign f.0) found)
   assign_by None e = only_assign (λ v. ⊥) ws (λ atom truth is. let some : None ≡ Some truth = sym e ∙ (same_assign atom truth is).1 in let f : ⊥ = cc in f)
-  assign_by (Some truth) e =
-      ((refl, record {
-         atom_words = only.0.first;
-         words_are = only.0.words_are ∙ ap (λ xs. only.0.first ++ xs) (sym (front_rest only.0) ∙ truth_word (drop f.1 ws) truth e);
-         atom_is = only.0.is;
-       }),
-       only_assign (λ v. v ≡ Assign f.0 truth) ws
-       (λ atom other is.
-          let parts = same_assign atom other is in
-          let some : Some other ≡ Some truth = sym parts.1 ∙ e in
-          let same : other ≡ truth = cc in
-          ap (λ a. Assign a other) parts.0 ∙ ap (Assign f.0) same))
+  assign_by (Some truth) e = (
+    (
+      refl,
+      record {
+        atom_words = only.0.first;
+        words_are = only.0.words_are ∙ ap (λ xs. only.0.first ++ xs) (sym (front_rest only.0) ∙ truth_word (drop f.1 ws) truth e);
+        atom_is = only.0.is;
+      },
+    ),
+    only_assign (λ v. v ≡ Assign f.0 truth) ws
+        (λ atom other is.
+        let parts = same_assign atom other is in
+        let some : Some other ≡ Some truth = sym parts.1 ∙ e in
+        let same : other ≡ truth = cc in
+        ap (λ a. Assign a other) parts.0 ∙ ap (Assign f.0) same),
+  )
 
 no_assign : (ws : List Word) → ((f : Value × ℕ) → IsFront IsAtom ws f → ⊥) → (v : Command) → IsSaid (codes "assign") ws v → ⊥
 no_assign ws none = only_assign (λ v. ⊥) ws (λ atom truth is. none (atom, length is.atom_words) (record { first = is.atom_words; rest = name (truth_name truth) ∷ []; words_are = is.words_are; count_is = refl; is = is.atom_is; ends = tt }))
@@ -137,15 +141,3 @@ module _ (text : List ℕ) (tokens : List Token) (found : Option (Value × ℕ))
   assign_read f e after a truth t r q =
       let words : truth_in (drop f.1 (words_of text tokens)) ≡ truth = ap truth_in (words_of-drop text f.1 tokens ∙ ap (words_of text) (sym a)) ∙ sym t in
       subst (Finds (IsSaid (codes "assign") (words_of text tokens))) (sym q) (assign_by (words_of text tokens) f (subst (Finds (IsFront IsAtom (words_of text tokens))) e h) truth words)
-
--- by the command's word
-pub by_word : {E : Type 0} (word known : List ℕ) (ws : List Word) → pointwise nat_eq word known ≡ true → (r : Result (Option Command) E) → IfOk r (Finds (IsSaid known ws)) → IfOk r (Finds (IsSaid word ws))
-by_word word known ws e (Ok found) h = subst (λ w. Finds (IsSaid w ws) found) (sym (same_text word known e)) h
-by_word word known ws e (Err error) h = tt
-
-pub by_no_word : (word : List ℕ) (ws : List Word) → pointwise nat_eq word (codes "ground") ≡ false → pointwise nat_eq word (codes "assign") ≡ false → pointwise nat_eq word (codes "release") ≡ false → pointwise nat_eq word (codes "solve") ≡ false → (v : Command) → IsSaid word ws v → ⊥
-by_no_word word ws g a r s (Add text) is = is
-by_no_word word ws g a r s (Ground calls) is = other_text word (codes "ground") g is.0
-by_no_word word ws g a r s (Assign atom truth) is = other_text word (codes "assign") a is.0
-by_no_word word ws g a r s (Release atom) is = other_text word (codes "release") r is.0
-by_no_word word ws g a r s (Solve count limit assume) is = other_text word (codes "solve") s is.0

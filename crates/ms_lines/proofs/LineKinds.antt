@@ -111,13 +111,14 @@ module _ (line word text : List ℕ) (tokens : List Token) (has : HasWord line w
 
   -- no command
   pub bad_here : (word ≡ codes "add" → tokens ≡ [] → ⊥) → ((command : Command) → IsSaid word (words_of text tokens) command → ⊥) → IsOnly (IsKind line) Bad
-  bad_here add h =
-      (record {
-         not_blank = not_passed;
-         not_add = λ is. let o = opens_here is in add o.0 o.1;
-         not_command = λ command is. h command (said_here command is);
-       },
-       bad_only add h)
+  bad_here add h = (
+    record {
+      not_blank = not_passed;
+      not_add = λ is. let o = opens_here is in add o.0 o.1;
+      not_command = λ command is. h command (said_here command is);
+    },
+    bad_only add h,
+  )
 
 -- the text after the word has no tokens
 module _ (line after : List ℕ) (sign : skipped is_space line ≡ 64 ∷ after) (bad : BadByte) (none : tokens_of (skipped is_word after) ≡ Err bad) where
@@ -136,13 +137,14 @@ module _ (line after : List ℕ) (sign : skipped is_space line ≡ 64 ∷ after)
   lexed_only Bad is = refl
 
   pub bad_byte : IsOnly (IsKind line) Bad
-  bad_byte =
-      (record {
-         not_blank = not_blank line after sign;
-         not_add = λ is. no_word (codes "add") is.rest [] is.has_word;
-         not_command = λ command is. no_word is.word is.rest is.tokens is.has_word;
-       },
-       lexed_only)
+  bad_byte = (
+    record {
+      not_blank = not_blank line after sign;
+      not_add = λ is. no_word (codes "add") is.rest [] is.has_word;
+      not_command = λ command is. no_word is.word is.rest is.tokens is.has_word;
+    },
+    lexed_only,
+  )
 
 -- a line without an at sign
 module _ (line : List ℕ) (no_sign : HasNoSign line) where
@@ -165,13 +167,14 @@ module _ (line : List ℕ) (no_sign : HasNoSign line) where
   unsigned_only h Bad is = refl
 
   pub unsigned_line : (IsBlank line → ⊥) → IsOnly (IsKind line) Bad
-  unsigned_line h =
-      (record {
-         not_blank = h;
-         not_add = λ is. unsigned_word (codes "add") is.rest [] is.has_word;
-         not_command = λ command is. unsigned_word is.word is.rest is.tokens is.has_word;
-       },
-       unsigned_only h)
+  unsigned_line h = (
+    record {
+      not_blank = h;
+      not_add = λ is. unsigned_word (codes "add") is.rest [] is.has_word;
+      not_command = λ command is. unsigned_word is.word is.rest is.tokens is.has_word;
+    },
+    unsigned_only h,
+  )
 
 -- the word and the text after it, as they are cut
 module _ (after : List ℕ) (len : ℕ) (e : len ≡ length (take_while is_word after)) where

@@ -40,11 +40,12 @@ module _ (line : List ℕ) where
   kind_of_said (Some item) (Some text) is = absurd is
 
   pub says_by_kind : (kind : LineKind) → IsOnly (IsKind line) kind → IsOnly (Says None line) (said_of kind)
-  says_by_kind kind h =
-      (kind_says kind h.0,
-       λ said is.
-         let k = kind_of_said said.0 said.1 is in
-         k.2 ∙ ap said_of (h.1 k.0 k.1))
+  says_by_kind kind h = (
+    kind_says kind h.0,
+    λ said is.
+        let k = kind_of_said said.0 said.1 is in
+        k.2 ∙ ap said_of (h.1 k.0 k.1),
+  )
 
   -- and inside of a text
   pub says_by_end : (text : List ℕ) (said : Option Item × Open) → said ≡ text_says (ends_text line) text line → IsOnly (Says (Some text) line) said
@@ -92,16 +93,17 @@ module _ (ended : Bool) (more : List ℕ) where
 HaveItems-line : (opened : Open) (line : List ℕ) (lines : List (List ℕ)) (said : Option Item × Open) → IsOnly (Says opened line) said → (items : List Item) (left : Open)
     → HaveItems opened (line ∷ lines) items left ↔ ((others : List Item) × (items ≡ with_item said.0 others) × HaveItems said.1 lines others left)
 unfolding HaveItems
-HaveItems-line opened line lines said only items left =
-    (λ h.
-       let same : h.0 ≡ said = only.1 h.0 h.2 in
-       (h.1, h.3 ∙ ap (λ s. with_item s.0 h.1) same, subst (λ s. HaveItems s.1 lines h.1 left) same h.4),
-     λ h. (said, h.0, only.0, h.1, h.2))
+HaveItems-line opened line lines said only items left = (
+  λ h.
+      let same : h.0 ≡ said = only.1 h.0 h.2 in
+      (h.1, h.3 ∙ ap (λ s. with_item s.0 h.1) same, subst (λ s. HaveItems s.1 lines h.1 left) same h.4),
+  λ h. (said, h.0, only.0, h.1, h.2),
+)
 
 pub says_then : (before after : Lines) (len : ℕ) → IsLineLen before.rest len → (item : Option Item) → IsOnly (Says before.text (take len before.rest)) (item, after.text) → after.rest ≡ drop (len + 1) before.rest → SaysThen before item after
 says_then before after len is item only e ended more items left =
     let lines : lines_in ended (before.rest ++ more) ≡ take len before.rest ∷ lines_in ended (after.rest ++ more) =
-          lines_of_first ended more before.rest len is ∙ ap (λ rest. take len before.rest ∷ lines_in ended (rest ++ more)) (sym e) in
+    lines_of_first ended more before.rest len is ∙ ap (λ rest. take len before.rest ∷ lines_in ended (rest ++ more)) (sym e) in
     let step = HaveItems-line before.text (take len before.rest) (lines_in ended (after.rest ++ more)) (item, after.text) only items left in
     (λ h. step.0 (subst (λ ls. HaveItems before.text ls items left) lines h), λ h. subst (λ ls. HaveItems before.text ls items left) (sym lines) (step.1 h))
 
@@ -110,12 +112,13 @@ pub says_nothing : (lines : Lines) → SaysThen lines None lines
 says_nothing lines ended more items left = (λ h. (items, refl, h), λ h. subst (λ is. HasLeft lines ended more is left) (sym h.1) h.2)
 
 pub says_later : (first second third : Lines) (item : Option Item) → SaysThen first None second → SaysThen second item third → SaysThen first item third
-says_later first second third item a b ended more items left =
-    (λ h.
-       let s = (a ended more items left).0 h in
-       let t = (b ended more s.0 left).0 s.2 in
-       (t.0, s.1 ∙ t.1, t.2),
-     λ h. (a ended more items left).1 (items, refl, (b ended more items left).1 h))
+says_later first second third item a b ended more items left = (
+  λ h.
+      let s = (a ended more items left).0 h in
+      let t = (b ended more s.0 left).0 s.2 in
+      (t.0, s.1 ∙ t.1, t.2),
+  λ h. (a ended more items left).1 (items, refl, (b ended more items left).1 h),
+)
 
 -- the same at the end
 pub says_at_end : (before after : Lines) (item : Option Item) → SaysThen before item after → SaysAtEnd before item after
@@ -125,12 +128,13 @@ pub at_end_nothing : (lines : Lines) → SaysAtEnd lines None lines
 at_end_nothing lines = says_at_end lines lines None (says_nothing lines)
 
 pub at_end_later : (first second third : Lines) (item : Option Item) → SaysAtEnd first None second → SaysAtEnd second item third → SaysAtEnd first item third
-at_end_later first second third item a b items left =
-    (λ h.
-       let s = (a items left).0 h in
-       let t = (b s.0 left).0 s.2 in
-       (t.0, s.1 ∙ t.1, t.2),
-     λ h. (a items left).1 (items, refl, (b items left).1 h))
+at_end_later first second third item a b items left = (
+  λ h.
+      let s = (a items left).0 h in
+      let t = (b s.0 left).0 s.2 in
+      (t.0, s.1 ∙ t.1, t.2),
+  λ h. (a items left).1 (items, refl, (b items left).1 h),
+)
 
 -- A last line without its line end is the line that it is with it.
 last_by : (b : ℕ) (bs : List ℕ) → (HasNoLine bs → (lines_in true (bs ++ 10 ∷ []) ≡ bs ∷ []) × (in_first_line true b (lines_in true bs) ≡ (b ∷ bs) ∷ [])) → (t : Bool) → eqb b 10 ≡ t → HasNoLine (b ∷ bs) → (lines_in true (b ∷ bs ++ 10 ∷ []) ≡ (b ∷ bs) ∷ []) × (lines_in true (b ∷ bs) ≡ (b ∷ bs) ∷ [])
@@ -152,9 +156,10 @@ last_line_ended (b ∷ bs) some none = let h = last_by b bs (last_after b bs) (e
 
 pub at_end_pushed : (before after : Lines) → (before.rest ≡ [] → ⊥) → HasNoLine before.rest → after.text ≡ before.text → after.rest ≡ before.rest ++ 10 ∷ [] → SaysAtEnd before None after
 at_end_pushed before after some none text rest items left =
-    let lines : lines_in true (after.rest ++ []) ≡ lines_in true (before.rest ++ []) = ap (lines_in true) (append-nil after.rest ∙ rest) ∙ last_line_ended before.rest some none ∙ ap (lines_in true) (sym (append-nil before.rest)) in
-    (λ h. (items, refl, subst (λ t. HaveItems t (lines_in true (after.rest ++ [])) items left) (sym text) (subst (λ ls. HaveItems before.text ls items left) (sym lines) h)),
-     λ h. subst (λ is. HasLeft before true [] is left) (sym h.1) (subst (λ ls. HaveItems before.text ls h.0 left) lines (subst (λ t. HaveItems t (lines_in true (after.rest ++ [])) h.0 left) text h.2)))
+    let lines : lines_in true (after.rest ++ []) ≡ lines_in true (before.rest ++ []) = ap (lines_in true) (append-nil after.rest ∙ rest) ∙ last_line_ended before.rest some none ∙ ap (lines_in true) (sym (append-nil before.rest)) in (
+      λ h. (items, refl, subst (λ t. HaveItems t (lines_in true (after.rest ++ [])) items left) (sym text) (subst (λ ls. HaveItems before.text ls items left) (sym lines) h)),
+      λ h. subst (λ is. HasLeft before true [] is left) (sym h.1) (subst (λ ls. HaveItems before.text ls h.0 left) lines (subst (λ t. HaveItems t (lines_in true (after.rest ++ [])) h.0 left) text h.2)),
+    )
 
 -- what ends with a line end and has no line is empty
 ends_by : (b : ℕ) (bs : List ℕ) → (HasNoLine bs → (xs : List ℕ) → bs ≡ xs ++ 10 ∷ [] → ⊥) → (t : Bool) → eqb b 10 ≡ t → HasNoLine (b ∷ bs) → (xs : List ℕ) → b ∷ bs ≡ xs ++ 10 ∷ [] → ⊥

@@ -86,12 +86,14 @@ module _ (text : List ℕ) (tokens : List Token) where
 
         pub limit_here : (limit : ℕ) → number_in greatest_limit (word_of text first) ≡ Some limit → HasLimit (words_of text tokens) limit (words_of text rest)
         limit_here limit is =
-            let parts = number_in-some greatest_limit (word_of text first) limit is in
-            (name_begins text (codes "limit") tokens behind named
-               ∙ ap (λ ws. name (codes "limit") ∷ ws) (words_begin text Equal (λ t. refl) behind after equal)
-               ∙ ap (λ ts. name (codes "limit") ∷ sign Equal ∷ words_of text ts) split
-               ∙ ap (λ w. name (codes "limit") ∷ sign Equal ∷ w ∷ words_of text rest) parts.0,
-             parts.1, parts.2)
+            let parts = number_in-some greatest_limit (word_of text first) limit is in (
+              name_begins text (codes "limit") tokens behind named
+                  ∙ ap (λ ws. name (codes "limit") ∷ ws) (words_begin text Equal (λ t. refl) behind after equal)
+                  ∙ ap (λ ts. name (codes "limit") ∷ sign Equal ∷ words_of text ts) split
+                  ∙ ap (λ w. name (codes "limit") ∷ sign Equal ∷ w ∷ words_of text rest) parts.0,
+              parts.1,
+              parts.2,
+            )
 
         limit_tokens : words_of text (drop 3 tokens) ≡ words_of text rest
         limit_tokens = ap (words_of text) (ap (drop 3) (named.tokens_are ∙ ap (λ ts. named.first ∷ ts) (equal.tokens_are ∙ ap (λ ts. equal.first ∷ ts) split)))
@@ -211,12 +213,13 @@ module _ (w : Word) (ws : List Word) where
 
     solve_found : (found : Option (List Assumption)) → Finds (IsAssume rest) found → Finds (IsSaid (codes "solve") (w ∷ ws)) (option_map (Solve count limit) found)
     solve_found None h = only_solve (λ v. ⊥) (w ∷ ws) (λ n l assume is. h assume (parts_only n l assume is).2)
-    solve_found (Some found) h =
-        ((refl, solve_from w ws rest count limit found (count_sound w count counts) limited h.0),
-         only_solve (λ v. v ≡ Solve count limit found) (w ∷ ws)
-         (λ n l assume is.
-            let p = parts_only n l assume is in
-            ap (λ k. Solve k l assume) p.0 ∙ ap (λ k. Solve count k assume) p.1 ∙ ap (Solve count limit) (h.1 assume p.2)))
+    solve_found (Some found) h = (
+      (refl, solve_from w ws rest count limit found (count_sound w count counts) limited h.0),
+      only_solve (λ v. v ≡ Solve count limit found) (w ∷ ws)
+          (λ n l assume is.
+          let p = parts_only n l assume is in
+          ap (λ k. Solve k l assume) p.0 ∙ ap (λ k. Solve count k assume) p.1 ∙ ap (Solve count limit) (h.1 assume p.2)),
+    )
 
 -- the same over tokens
 module _ (text : List ℕ) (tokens : List Token) where
