@@ -1,5 +1,5 @@
 -- One line after another.
-use Rattle.std.proofs.Common.{◌≡◌, ◌≢◌, ℕ, zero, suc, ◌+◌, ◌<◌, ◌≤◌, Bool, true, false, eqb, List, [], ◌∷◌, ◌++◌, length, take, drop, get_or, inl, inr, ◌⊎◌, ◌↔◌, Option, Some, None, Result, Ok, Err, IfOk, OnErr, refl, sym, ap, ◌∙◌, subst, arith, one-add, add-one, append-nil, append_assoc, length-append, eqb-true, take-append-drop}
+use Rattle.std.proofs.Common.{◌≡◌, ◌≢◌, ℕ, zero, suc, ◌+◌, ◌<◌, ◌≤◌, Bool, true, false, eqb, List, [], ◌∷◌, ◌++◌, length, take, drop, get_or, inl, inr, ◌⊎◌, ◌↔◌, Option, Some, None, Result, Ok, Err, IfOk, OnErr, refl, sym, ap, ◌∙◌, subst, arith, one-add, add-one, append-nil, append_assoc, length-append, eqb-true, take-append-drop, length-drop}
 use Rattle.std.specs.List.{prefix_len}
 use Rattle.std.proofs.lemmas.Bool.{true≢false, false≢true}
 use Rattle.std.proofs.lemmas.List.{take_more}
@@ -12,11 +12,12 @@ use Rattle.ms_lines.specs.declared.Lines.{Lines}
 use Rattle.ms_lines.specs.declared.kinds.LineKind.{LineKind}
 use Rattle.ms_lines.specs.declared.kinds.LineKind.TheVariants.{Passed, OpensText as opens_text, Command as is_command, Bad}
 use Rattle.ms_lines.specs.Kinds.{IsKind}
-use Rattle.ms_lines.specs.Buffers.{IsLineLen, HasNoLine, IsEndOf}
+use Rattle.ms_lines.specs.Buffers.{IsLineLen, HasNoLine, IsEndOf, LacksLine}
 use Rattle.ms_lines.specs.declared.Fed.{Fed}
 use Rattle.ms_lines.specs.declared.Fed.TheVariants.{Command as is_fed, BadCommand, NotYet}
-use Rattle.ms_lines.specs.Feeding.{SaysThen, SaysAtEnd, HasLeft, item_of}
+use Rattle.ms_lines.specs.Feeding.{SaysThen, SaysAtEnd, HasLeft, item_of, IsShorter, LosesLine}
 use Rattle.ms_lines.specs.Finding.{IsOnly}
+use Rattle.ms_lines.proofs.Scanning.{front_more}
 
 -- what a line says outside of a text, by its kind
 abbrev pub said_of : LineKind → Option Item × Open
@@ -239,3 +240,52 @@ ended_err (Err e) before after h = says_at_end before after None h
 pub ended_all : {E : Type 0} (r : Result Fed E) (bytes pushed last : List ℕ) → pushed ≡ bytes ++ 10 ∷ [] → IsEndOf pushed last → IfOk r (λ fed. item_of fed ≡ None → HasNoLine last) → IfOk r (λ fed. item_of fed ≡ None → last ≡ [])
 ended_all (Ok fed) bytes pushed last e k h = λ none. all_read k.0 last bytes (sym e ∙ k.1) (h none)
 ended_all (Err e) bytes pushed last q k h = tt
+
+-- how much is left to read
+pub lacks_first : (bytes last : List ℕ) (len : ℕ) → IsLineLen bytes len → last ≡ drop (len + 1) bytes → LacksLine bytes last
+lacks_first bytes last len is e = omega (arith, is.len_is, is.within, ap length e, length-drop (len + 1) bytes)
+
+pub end_no_longer : (bytes last : List ℕ) → IsEndOf bytes last → length last ≤ length bytes
+end_no_longer bytes last k = omega (arith, ap length k.1, length-append k.0 last)
+
+-- So far nothing was read, or at least the first line.
+abbrev pub HasRead : List ℕ → List ℕ → Type 0
+HasRead bytes rest = (rest ≡ bytes) ⊎ LacksLine bytes rest
+
+pub read_on : (bytes here rest last : List ℕ) → HasRead bytes here → rest ≡ here → LacksLine rest last → LacksLine bytes last
+read_on bytes here rest last (inl e) same lacks = subst (λ r. LacksLine r last) (same ∙ e) lacks
+read_on bytes here rest last (inr h) same lacks = omega (arith, h, lacks, ap length same)
+
+pub loses_item : (fed : Fed) (bytes last : List ℕ) → LacksLine bytes last → LosesLine fed bytes last
+loses_item (is_fed c) bytes last h = h
+loses_item BadCommand bytes last h = h
+loses_item NotYet bytes last h = tt
+
+pub shorter_item : (fed : Fed) (bytes last : List ℕ) → LosesLine fed bytes last → IsShorter fed bytes last
+shorter_item (is_fed c) bytes last h = omega (arith, h)
+shorter_item BadCommand bytes last h = omega (arith, h)
+shorter_item NotYet bytes last h = tt
+
+-- the last line, which is all that is left
+line_ended_len : (bytes : List ℕ) → HasNoLine bytes → length bytes ≤ prefix_len is_in_line (bytes ++ 10 ∷ [])
+line_ended_len bytes none = omega (arith, none, front_more is_in_line bytes (10 ∷ []))
+
+last_shorter : (fed : Fed) (bytes pushed last : List ℕ) → pushed ≡ bytes ++ 10 ∷ [] → (bytes ≡ [] → ⊥) → HasNoLine bytes → LosesLine fed pushed last → IsShorter fed bytes last
+last_shorter fed [] pushed last e some none h = absurd (some refl)
+last_shorter (is_fed c) (b ∷ bs) pushed last e some none h = omega (arith, h, ap length e, ap (prefix_len is_in_line) e, length-append (b ∷ bs) (10 ∷ []), line_ended_len (b ∷ bs) none)
+last_shorter BadCommand (b ∷ bs) pushed last e some none h = omega (arith, h, ap length e, ap (prefix_len is_in_line) e, length-append (b ∷ bs) (10 ∷ []), line_ended_len (b ∷ bs) none)
+last_shorter NotYet (b ∷ bs) pushed last e some none h = tt
+
+pub ended_shorter : {E : Type 0} (r : Result Fed E) (bytes pushed last : List ℕ) → pushed ≡ bytes ++ 10 ∷ [] → (bytes ≡ [] → ⊥) → HasNoLine bytes → IfOk r (λ fed. LosesLine fed pushed last) → IfOk r (λ fed. IsShorter fed bytes last)
+ended_shorter (Ok fed) bytes pushed last e some none h = last_shorter fed bytes pushed last e some none h
+ended_shorter (Err error) bytes pushed last e some none h = tt
+
+-- nothing was said before the last line
+after_part : (fed : Fed) (bytes here last : List ℕ) → IsEndOf bytes here → IsShorter fed here last → IsShorter fed bytes last
+after_part (is_fed c) bytes here last k h = omega (arith, h, end_no_longer bytes here k)
+after_part BadCommand bytes here last k h = omega (arith, h, end_no_longer bytes here k)
+after_part NotYet bytes here last k h = tt
+
+pub shorter_after : {E : Type 0} (r : Result Fed E) (bytes here last : List ℕ) → IsEndOf bytes here → IfOk r (λ fed. IsShorter fed here last) → IfOk r (λ fed. IsShorter fed bytes last)
+shorter_after (Ok fed) bytes here last k h = after_part fed bytes here last k h
+shorter_after (Err e) bytes here last k h = tt

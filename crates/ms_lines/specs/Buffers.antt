@@ -1,5 +1,5 @@
 -- How bytes are kept of which some are gone.
-use Rattle.std.specs.Prelude.{ℕ, ◌≡◌, ◌≤◌, ◌<◌, ◌-◌, ◌++◌, List, length, drop}
+use Rattle.std.specs.Prelude.{ℕ, ◌≡◌, ◌≤◌, ◌<◌, ◌+◌, ◌-◌, ◌++◌, List, length, drop}
 use Rattle.std.specs.List.{prefix_len}
 use Rattle.ms_text.specs.Tokens.{is_in_line}
 
@@ -21,3 +21,7 @@ HasNoLine bytes = prefix_len is_in_line bytes ≡ length bytes
 -- The first bytes end with the second.
 abbrev pub IsEndOf : List ℕ → List ℕ → Type 0
 IsEndOf bytes last = (front : List ℕ) × (bytes ≡ front ++ last)
+
+-- The first bytes end with the second, and the first line isn't among them.
+abbrev pub LacksLine : List ℕ → List ℕ → Type 0
+LacksLine bytes last = length last + prefix_len is_in_line bytes < length bytes

@@ -1,6 +1,7 @@
 -- What a script says next, and what it says after that.
-use Rattle.std.specs.Prelude.{ℕ, ◌≡◌, ◌↔◌, Bool, true, false, List, [], ◌∷◌, ◌++◌, Option, Some, None}
+use Rattle.std.specs.Prelude.{ℕ, ◌≡◌, ◌<◌, ◌↔◌, ⊤, length, Bool, true, false, List, [], ◌∷◌, ◌++◌, Option, Some, None}
 use Rattle.ms_call.specs.Items.{Item, command, bad_line, Open, Says, with_item, HaveItems, HasWholeItems, lines_in}
+use Rattle.ms_lines.specs.Buffers.{LacksLine}
 use Rattle.ms_lines.specs.declared.Lines.{Lines}
 use Rattle.ms_lines.specs.declared.Fed.{Fed}
 use Rattle.ms_lines.specs.declared.Fed.TheVariants.{Command, BadCommand, NotYet}
@@ -25,3 +26,13 @@ abbrev pub SaysAtEnd : Lines → Option Item → Lines → Type 0
 SaysAtEnd before item after =
     (items : List Item) (left : Open) →
     HasLeft before true [] items left ↔ ((others : List Item) × (items ≡ with_item item others) × HasLeft after true [] others left)
+
+-- What says an item leaves fewer bytes to read.
+abbrev pub IsShorter : Fed → List ℕ → List ℕ → Type 0
+IsShorter NotYet before after = ⊤
+IsShorter fed before after = length after < length before
+
+-- What says an item has read at least the first line.
+abbrev pub LosesLine : Fed → List ℕ → List ℕ → Type 0
+LosesLine NotYet before after = ⊤
+LosesLine fed before after = LacksLine before after

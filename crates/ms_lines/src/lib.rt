@@ -4,8 +4,8 @@
 ghost use Rattle.std.specs.Prelude.{◌≡◌, ◌↔◌, ◌<◌, ◌++◌, [], None, length, take, IfOk, OnOk, OnErr, IsTrue, IsSome};
 ghost use Rattle.ms_call.specs.Items.{Says};
 ghost use Rattle.ms_lines.specs.Finding.{IsOnly};
-ghost use Rattle.ms_lines.specs.Buffers.{IsLineLen, HasNoLine, IsEndOf};
-ghost use Rattle.ms_lines.specs.Feeding.{item_of, SaysThen, SaysAtEnd};
+ghost use Rattle.ms_lines.specs.Buffers.{IsLineLen, HasNoLine, IsEndOf, LacksLine};
+ghost use Rattle.ms_lines.specs.Feeding.{item_of, SaysThen, SaysAtEnd, IsShorter, LosesLine};
 
 mod arguments;
 mod buffer;
@@ -69,6 +69,7 @@ impl Lines {
         ensures said { IfOk result (λ fed. SaysThen self.old (item_of fed) self.new) }
         ensures whole { IfOk result (λ fed. item_of fed ≡ None → HasNoLine self.new.rest) }
         ensures kept { IsEndOf self.old.rest self.new.rest }
+        ensures shorter { IfOk result (λ fed. LosesLine fed self.old.rest self.new.rest) }
         ensures err { OnErr result (SaysThen self.old None self.new) }
     {
         while let Some(len) = self.rest.line_len() {
@@ -84,6 +85,7 @@ impl Lines {
     pub fn end(&mut self, alloc: Global) -> Result<Fed, OutOfMemory>
         ensures said { IfOk result (λ fed. SaysAtEnd self.old (item_of fed) self.new) }
         ensures all { IfOk result (λ fed. item_of fed ≡ None → self.new.rest ≡ []) }
+        ensures shorter { IfOk result (λ fed. IsShorter fed self.old.rest self.new.rest) }
         ensures err { OnErr result (SaysAtEnd self.old None self.new) }
     {
         match self.next_command(alloc)? {
@@ -97,6 +99,7 @@ impl Lines {
         requires { HasNoLine self.old.rest }
         ensures said { IfOk result (λ fed. SaysAtEnd self.old (item_of fed) self.new) }
         ensures all { IfOk result (λ fed. item_of fed ≡ None → self.new.rest ≡ []) }
+        ensures shorter { IfOk result (λ fed. IsShorter fed self.old.rest self.new.rest) }
         ensures err { OnErr result (SaysAtEnd self.old None self.new) }
     {
         if self.rest.is_empty() {
@@ -117,7 +120,7 @@ impl Lines {
     fn take_line(&mut self, alloc: Global, len: usize) -> Result<Fed, OutOfMemory>
         requires { IsLineLen self.old.rest len }
         ensures said { IfOk result (λ fed. SaysThen self.old (item_of fed) self.new) }
-        ensures shorter { OnOk result (length self.new.rest < length self.old.rest) }
+        ensures shorter { OnOk result (LacksLine self.old.rest self.new.rest) }
         ensures kept { IsEndOf self.old.rest self.new.rest }
         ensures err { OnErr result (self.new ≡ self.old) }
     {

@@ -1,6 +1,6 @@
 use Rattle.std.proofs.Common.{◌≡◌, [], sym, ◌∙◌, refl}
 use Rattle.std.proofs.lemmas.Bool.{false≢true}
-use Rattle.ms_lines.proofs.LineSteps.{at_end_pushed, said_after, err_after, ended_said, ended_err, ended_all}
+use Rattle.ms_lines.proofs.LineSteps.{at_end_pushed, said_after, err_after, ended_said, ended_err, ended_all, ended_shorter}
 use Rattle.ms_lines.proofs.Lines.last_line.Goals as goal
 
 pub returns-clause-said : goal.returns-clause-said
@@ -17,3 +17,6 @@ returns-clause-err c =
 
 pub returns-clause-all : goal.returns-clause-all
 returns-clause-all c = ended_all _ _ _ _ c.in_ok-push.ensures.ok c.next_command.ensures.kept c.next_command.ensures.whole
+
+pub returns-clause-shorter : goal.returns-clause-shorter
+returns-clause-shorter c = ended_shorter _ _ _ _ c.in_ok-push.ensures.ok (λ e. false≢true (sym c.if-is_empty.false ∙ c.is_empty.ensures.1 e)) c.requires c.next_command.ensures.shorter

@@ -2,7 +2,7 @@ use Rattle.std.proofs.Common.{take, subst}
 use Rattle.ms_call.specs.Items.{Says}
 use Rattle.ms_lines.specs.Feeding.{item_of}
 use Rattle.ms_lines.specs.Finding.{IsOnly}
-use Rattle.ms_lines.proofs.LineSteps.{says_then, end_dropped}
+use Rattle.ms_lines.proofs.LineSteps.{says_then, end_dropped, lacks_first}
 use Rattle.ms_lines.proofs.Lines.take_line.Goals as goal
 
 pub returns-clause-said : goal.returns-clause-said
@@ -13,3 +13,6 @@ returns-clause-said c =
 
 pub returns-clause-kept : goal.returns-clause-kept
 returns-clause-kept c = end_dropped _ _ _ c.advance.ensures
+
+pub returns-clause-shorter : goal.returns-clause-shorter
+returns-clause-shorter c = lacks_first _ _ _ c.requires c.advance.ensures
