@@ -3,7 +3,7 @@ use Rattle.std.specs.Prelude.{ℕ, ◌≡◌, ◌≢◌, ◌≤◌, ◌⊎◌, B
 use Rattle.ms_text.specs.declared.token.TokenKind.TheVariants.{Not, Comma, LeftParen, RightParen, Equal}
 use Rattle.ms_grammar.specs.declared.value.Value.{Value}
 use Rattle.ms_grammar.specs.declared.part.ValuePart.{ValuePart}
-use Rattle.ms_grammar.specs.Words.{Word, name, number, quoted, sign}
+use Rattle.ms_grammar.specs.Words.{Word, name, number, sign}
 use Rattle.ms_grammar.specs.Values.{Spelling, value_words, value_part}
 use Rattle.ms_call.specs.declared.command.Call.{Call}
 use Rattle.ms_call.specs.declared.command.Truth.{Truth}

@@ -1,5 +1,5 @@
 -- What a line of a script says.
-use Rattle.std.specs.Prelude.{ℕ, ◌≡◌, ◌==◌, nat_eq, Bool, ◌||◌, ◌&&◌, List, [], ◌∷◌, ◌++◌, length, drop, take_while, Ok, codes}
+use Rattle.std.specs.Prelude.{ℕ, ◌≡◌, ◌==◌, nat_eq, Bool, ◌||◌, ◌&&◌, List, [], ◌∷◌, length, drop, take_while, Ok, codes}
 use Rattle.std.specs.List.{list_all, starts_with}
 use Rattle.ms_text.specs.declared.token.Token.{Token}
 use Rattle.ms_text.specs.Tokens.{tokens_of, is_word}

@@ -31,13 +31,22 @@ pub type Assumptions = Seq<Assumption>;
 #[derive(Debug, Drop)]
 pub enum Command {
     /// `@add`, with the text up to `@end`.
-    Add { text: Bytes },
+    Add {
+        text: Bytes,
+    },
     /// `@ground`, with at least one call.
-    Ground { calls: Calls },
+    Ground {
+        calls: Calls,
+    },
     /// `@assign`
-    Assign { atom: Value, truth: Truth },
+    Assign {
+        atom: Value,
+        truth: Truth,
+    },
     /// `@release`
-    Release { atom: Value },
+    Release {
+        atom: Value,
+    },
     /// `@solve`, with how many answers are asked for and how many conflicts are allowed.
     Solve {
         count: u64,

@@ -1,5 +1,5 @@
 -- The values of a call, read one by one up to a `)`.
-use Rattle.std.proofs.Common.{◌≡◌, ◌≢◌, ℕ, suc, ◌+◌, ◌<◌, List, [], ◌∷◌, ◌++◌, length, drop, Option, Some, None, Result, Ok, Err, IfOk, MatchOption, inl, inr, ◌⊎◌, refl, sym, ap, ◌∙◌, subst, append_assoc, arith}
+use Rattle.std.proofs.Common.{◌≡◌, ◌≢◌, ℕ, List, [], ◌∷◌, ◌++◌, length, drop, Option, Some, None, Result, Ok, Err, IfOk, MatchOption, inl, inr, ◌⊎◌, refl, sym, ap, ◌∙◌, subst, append_assoc}
 use Rattle.ms_text.specs.declared.token.Token.{Token}
 use Rattle.ms_text.specs.declared.token.TokenKind.TheVariants.{Comma, RightParen}
 use Rattle.ms_grammar.specs.declared.value.Value.{Value}

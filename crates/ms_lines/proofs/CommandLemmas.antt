@@ -1,7 +1,6 @@
 -- The commands of a line, by their words.
-use Rattle.std.proofs.Common.{◌≡◌, ◌≢◌, ℕ, ◌+◌, ◌≤◌, Bool, true, false, if◌then◌else◌, eqb, List, [], ◌∷◌, ◌++◌, length, drop, Option, Some, None, Result, Ok, Err, IfOk, refl, sym, ap, ◌∙◌, subst, append-nil, arith, length-append, eqb-true}
-use Rattle.std.specs.Prelude.{codes, nat_eq}
-use Rattle.std.specs.Cmp.Lexicographic.{pointwise}
+use Rattle.std.proofs.Common.{◌≡◌, ℕ, ◌+◌, Bool, true, false, if◌then◌else◌, eqb, List, [], ◌∷◌, ◌++◌, length, drop, Option, Some, None, refl, sym, ap, ◌∙◌, subst, append-nil, arith, length-append, eqb-true}
+use Rattle.std.specs.Prelude.{codes}
 use Rattle.std.specs.Option.{option_map}
 use Rattle.std.proofs.lemmas.Bool.{false≢true, eq-eqb}
 use Rattle.ms_text.specs.declared.token.Token.{Token}
@@ -10,15 +9,13 @@ use Rattle.ms_grammar.specs.Words.{Word, name, words_of}
 use Rattle.ms_call.specs.declared.command.Call.{Call}
 use Rattle.ms_call.specs.declared.command.Truth.{Truth}
 use Rattle.ms_call.specs.declared.command.Truth.TheVariants.{True, False, Free}
-use Rattle.ms_call.specs.declared.command.Assumption.{Assumption}
 use Rattle.ms_call.specs.declared.command.Command.{Command}
 use Rattle.ms_call.specs.declared.command.Command.TheVariants.{Add, Ground, Assign, Release, Solve}
 use Rattle.ms_call.specs.Commands.{IsSaid, IsAssign, IsAtom, IsCall, AreSome, truth_name}
-use Rattle.ms_lines.specs.Words.{is_name, release, truth_by, truth_in}
+use Rattle.ms_lines.specs.Words.{is_name, release, truth_in}
 use Rattle.ms_lines.specs.Finding.{Finds, IsOnly, IsFront}
 use Rattle.ms_lines.proofs.Fronts.{words_of-drop, length-words_of, front_rest}
-use Rattle.ms_lines.proofs.NameLemmas.{same_text, other_text, is_name-same}
-use Rattle.ms_lines.proofs.Sequences.{cons-not-nil}
+use Rattle.ms_lines.proofs.NameLemmas.{other_text, is_name-same}
 
 -- a command of each word
 only_ground : (P : Command → Type 0) (ws : List Word) → ((calls : List Call) → AreSome IsCall ws calls → P (Ground calls)) → (v : Command) → IsSaid (codes "ground") ws v → P v

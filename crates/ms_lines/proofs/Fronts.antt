@@ -1,9 +1,8 @@
 -- What is at the front of words.
-use Rattle.std.proofs.Common.{◌≡◌, ℕ, ◌+◌, ◌<◌, ◌≤◌, List, [], ◌∷◌, ◌++◌, length, drop, Option, Some, None, Result, Ok, Err, IfOk, refl, sym, ap, ◌∙◌, subst, arith, length-append, drop_at}
+use Rattle.std.proofs.Common.{◌≡◌, ℕ, ◌+◌, ◌<◌, ◌≤◌, List, [], ◌∷◌, length, drop, Option, Some, None, Result, Ok, Err, IfOk, sym, ap, ◌∙◌, arith, length-append, drop_at}
 use Rattle.std.proofs.lemmas.List.{length-map, drop-map}
 use Rattle.ms_text.specs.declared.token.Token.{Token}
 use Rattle.ms_grammar.specs.Words.{Word, word_of, words_of}
-use Rattle.ms_grammar.specs.Reading.{EndsValue}
 use Rattle.ms_lines.specs.Finding.{Finds, FitWithin, IsFront}
 
 pub length-words_of : (text : List ℕ) (tokens : List Token) → length (words_of text tokens) ≡ length tokens

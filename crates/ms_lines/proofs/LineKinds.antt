@@ -1,10 +1,10 @@
 -- What a line outside a text is.
-use Rattle.std.proofs.Common.{◌≡◌, ◌≢◌, ℕ, zero, suc, ◌+◌, Bool, true, false, ◌||◌, cond, eqb, List, [], ◌∷◌, length, take, drop, take_while, Option, Some, None, Result, Ok, Err, IfOk, refl, sym, ap, ◌∙◌, subst, one-add, eqb-true, arith}
+use Rattle.std.proofs.Common.{◌≡◌, ℕ, suc, Bool, true, false, eqb, List, [], ◌∷◌, length, take, drop, take_while, Result, Ok, Err, IfOk, refl, sym, ap, ◌∙◌, subst, one-add, eqb-true, arith}
 use Rattle.std.specs.Prelude.{codes, nat_eq, ◌==◌, ◌&&◌}
 use Rattle.std.specs.List.{prefix_len}
 use Rattle.std.specs.Cmp.Lexicographic.{pointwise}
 use Rattle.std.proofs.lemmas.List.Folds.{length-prefix_len}
-use Rattle.std.proofs.lemmas.Bool.{true≢false, false≢true, and_parts}
+use Rattle.std.proofs.lemmas.Bool.{false≢true, and_parts}
 use Rattle.ms_text.specs.declared.token.Token.{Token}
 use Rattle.ms_text.specs.declared.token.BadByte.{BadByte}
 use Rattle.ms_text.specs.Tokens.{is_word, is_blank, tokens_of, tokens_from, line_after}
@@ -12,11 +12,11 @@ use Rattle.ms_grammar.specs.Words.{Word, words_of}
 use Rattle.ms_call.specs.declared.command.Command.{Command}
 use Rattle.ms_call.specs.declared.command.Command.TheVariants.{Add, Ground, Assign, Release, Solve}
 use Rattle.ms_call.specs.Commands.{IsSaid}
-use Rattle.ms_call.specs.Lines.{is_space, skipped, IsBlank, HasWord, OpensText, IsCommand, IsBad}
+use Rattle.ms_call.specs.Lines.{is_space, skipped, IsBlank, HasWord, OpensText, IsCommand}
 use Rattle.ms_lines.specs.declared.kinds.LineKind.{LineKind}
 use Rattle.ms_lines.specs.declared.kinds.LineKind.TheVariants.{Passed, OpensText as opens_text, Command as is_command, Bad}
 use Rattle.ms_lines.specs.Kinds.{IsKind, HasNoSign}
-use Rattle.ms_lines.specs.Finding.{Finds, IsOnly}
+use Rattle.ms_lines.specs.Finding.{IsOnly}
 use Rattle.ms_lines.proofs.NameLemmas.{same_text, other_text}
 use Rattle.ms_lines.proofs.Sequences.{cons-not-nil}
 

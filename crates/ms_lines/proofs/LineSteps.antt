@@ -1,12 +1,11 @@
 -- One line after another.
-use Rattle.std.proofs.Common.{◌≡◌, ◌≢◌, ℕ, zero, suc, ◌+◌, ◌<◌, ◌≤◌, Bool, true, false, eqb, List, [], ◌∷◌, ◌++◌, length, take, drop, get_or, inl, inr, ◌⊎◌, ◌↔◌, Option, Some, None, Result, Ok, Err, IfOk, OnErr, refl, sym, ap, ◌∙◌, subst, arith, one-add, add-one, append-nil, append_assoc, length-append, eqb-true, take-append-drop, length-drop}
+use Rattle.std.proofs.Common.{◌≡◌, ℕ, suc, ◌+◌, ◌<◌, ◌≤◌, Bool, true, false, eqb, List, [], ◌∷◌, ◌++◌, length, take, drop, get_or, inl, inr, ◌⊎◌, ◌↔◌, Option, Some, None, Result, Ok, Err, IfOk, OnErr, refl, sym, ap, ◌∙◌, subst, arith, one-add, add-one, append-nil, append_assoc, length-append, eqb-true, take-append-drop, length-drop}
 use Rattle.std.specs.List.{prefix_len}
 use Rattle.std.proofs.lemmas.Bool.{true≢false, false≢true}
 use Rattle.std.proofs.lemmas.List.{take_more}
 use Rattle.std.proofs.lemmas.List.Sums.{prefix_len_stops}
 use Rattle.ms_text.specs.Tokens.{is_in_line}
-use Rattle.ms_call.specs.declared.command.Command.TheVariants.{Add}
-use Rattle.ms_call.specs.Lines.{ends_text, IsBlank, OpensText, IsCommand, IsBad}
+use Rattle.ms_call.specs.Lines.{ends_text}
 use Rattle.ms_call.specs.Items.{Item, command, bad_line, Open, IsLine, Says, text_says, with_item, HaveItems, in_first_line, lines_in}
 use Rattle.ms_lines.specs.declared.Lines.{Lines}
 use Rattle.ms_lines.specs.declared.kinds.LineKind.{LineKind}

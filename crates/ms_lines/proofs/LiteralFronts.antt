@@ -1,15 +1,14 @@
 -- Literals at the front of words.
-use Rattle.std.proofs.Common.{◌≡◌, ℕ, suc, ◌+◌, ◌<◌, ◌≤◌, ◌^◌, Bool, true, false, List, [], ◌∷◌, ◌++◌, length, Option, Some, None, IfSome, refl, sym, ap, ◌∙◌, subst, arith, append_assoc, add-one}
+use Rattle.std.proofs.Common.{◌≡◌, ℕ, suc, ◌+◌, Bool, true, false, List, [], ◌∷◌, ◌++◌, length, Option, Some, None, refl, sym, ap, ◌∙◌, subst, add-one}
 use Rattle.ms_text.specs.declared.token.Token.{Token}
-use Rattle.ms_text.specs.declared.token.TokenKind.{TokenKind}
-use Rattle.ms_text.specs.declared.token.TokenKind.TheVariants.{Not, Name, Number, Text}
+use Rattle.ms_text.specs.declared.token.TokenKind.TheVariants.{Not}
 use Rattle.ms_grammar.specs.declared.value.Value.{Value}
-use Rattle.ms_grammar.specs.Words.{Word, name, sign, word_by_kind, word_of, words_of}
+use Rattle.ms_grammar.specs.Words.{Word, name, sign, words_of}
 use Rattle.ms_grammar.specs.Reading.{EndsValue}
 use Rattle.ms_call.specs.declared.command.Assumption.{Assumption}
 use Rattle.ms_call.specs.Commands.{IsAtom, IsLiteral, BeginsWithName, sign_words}
 use Rattle.ms_lines.specs.Words.{plain, negated}
-use Rattle.ms_lines.specs.Finding.{Finds, FitWithin, IsFront}
+use Rattle.ms_lines.specs.Finding.{Finds, IsFront}
 use Rattle.ms_lines.proofs.ValueFronts.{ends_at_name}
 use Rattle.ms_lines.specs.Signs.{Begins, BeginsNot}
 use Rattle.ms_lines.proofs.SignLemmas.{words_begin, words_begin_not}

@@ -1,8 +1,8 @@
 -- How far bytes were looked at.
-use Rattle.std.proofs.Common.{◌≡◌, ℕ, zero, suc, ◌+◌, ◌-◌, ◌<◌, ◌≤◌, Bool, true, false, List, [], ◌∷◌, ◌++◌, length, take, take_while, drop, cond, refl, sym, ap, ◌∙◌, subst, arith, length-append, one-add}
+use Rattle.std.proofs.Common.{◌≡◌, ℕ, zero, suc, ◌+◌, ◌-◌, ◌<◌, ◌≤◌, Bool, true, false, List, [], ◌∷◌, ◌++◌, length, take, take_while, drop, refl, sym, ap, ◌∙◌, subst, arith, length-append, one-add}
 use Rattle.std.specs.List.{prefix_len}
 use Rattle.std.specs.Bool.{then_some}
-use Rattle.std.specs.Prelude.{Option, MatchOption, ltb, vec_len}
+use Rattle.std.specs.Prelude.{Option, MatchOption, ltb}
 use Rattle.std.proofs.Common.{ltb-true, ltb-false}
 use Rattle.std.proofs.lemmas.List.{take_rest}
 use Rattle.std.proofs.lemmas.List.Folds.{length-prefix_len}

@@ -1,5 +1,5 @@
 -- One after another, up to the end of the words.
-use Rattle.std.proofs.Common.{◌≡◌, ℕ, List, [], ◌∷◌, ◌++◌, length, drop, Option, Some, None, Bool, true, false, eqb, refl, sym, ap, ◌∙◌, subst, append_assoc, arith, eqb-true}
+use Rattle.std.proofs.Common.{◌≡◌, ℕ, List, [], ◌∷◌, ◌++◌, length, drop, Option, Some, None, true, false, eqb, refl, sym, ap, ◌∙◌, subst, append_assoc, arith, eqb-true}
 use Rattle.std.proofs.lemmas.Bool.{true≢false}
 use Rattle.ms_text.specs.declared.token.Token.{Token}
 use Rattle.ms_grammar.specs.Words.{Word, words_of}

@@ -1,21 +1,21 @@
 -- What follows `@solve`.
-use Rattle.std.proofs.Common.{◌≡◌, ◌≢◌, ℕ, ◌≤◌, Bool, true, false, if◌then◌else◌, ◌&&◌, leb, List, [], ◌∷◌, ◌++◌, length, drop, suc, arith, MatchOption, Option, Some, None, Result, Ok, Err, IfOk, inl, inr, ◌⊎◌, refl, sym, ap, ◌∙◌, subst, leb-true, le-leb}
+use Rattle.std.proofs.Common.{◌≡◌, ℕ, ◌≤◌, Bool, true, false, if◌then◌else◌, ◌&&◌, List, [], ◌∷◌, ◌++◌, length, drop, suc, arith, MatchOption, Option, Some, None, Result, Ok, Err, IfOk, inl, inr, refl, sym, ap, ◌∙◌, subst, leb-true, le-leb}
 use Rattle.std.specs.Prelude.{codes, nat_le}
 use Rattle.std.specs.Option.{option_map}
-use Rattle.std.proofs.lemmas.Bool.{and_parts, true≢false, false≢true}
+use Rattle.std.proofs.lemmas.Bool.{and_parts}
 use Rattle.ms_text.specs.declared.token.Token.{Token}
 use Rattle.ms_text.specs.declared.token.TokenKind.TheVariants.{Equal}
 use Rattle.ms_grammar.specs.Words.{Word, name, number, sign, word_of, words_of}
 use Rattle.ms_call.specs.declared.command.Assumption.{Assumption}
 use Rattle.ms_call.specs.declared.command.Command.{Command}
 use Rattle.ms_call.specs.declared.command.Command.TheVariants.{Add, Ground, Assign, Release, Solve}
-use Rattle.ms_call.specs.Commands.{IsSaid, IsSolve, IsCount, IsLimit, IsAssume, AreSome, IsLiteral, most_answers, greatest_limit, usual_limit}
-use Rattle.ms_lines.specs.Words.{is_name, within_most, number_in, count_in}
+use Rattle.ms_call.specs.Commands.{IsSaid, IsSolve, IsCount, IsLimit, IsAssume, AreSome, IsLiteral, most_answers, greatest_limit}
+use Rattle.ms_lines.specs.Words.{is_name, number_in, count_in}
 use Rattle.ms_lines.specs.Signs.{Begins, BeginsNot, NameComes, NameComesNot}
 use Rattle.ms_lines.specs.Limits.{HasLimit, HasNoLimit, LimitIs}
 use Rattle.ms_lines.specs.Finding.{Finds, IsOnly}
 use Rattle.ms_lines.proofs.SignLemmas.{words_begin, words_begin_not}
-use Rattle.ms_lines.proofs.NameLemmas.{other_text, is_name-same, is_name-other, is_name-refl, name_begins, name_begins_not}
+use Rattle.ms_lines.proofs.NameLemmas.{other_text, is_name-same, name_begins, name_begins_not}
 use Rattle.ms_lines.proofs.Sequences.{cons-not-nil, no_tokens}
 
 -- a number within its bounds

@@ -1,5 +1,5 @@
 -- Values, atoms and literals at the front of words.
-use Rattle.std.proofs.Common.{◌≡◌, ℕ, suc, ◌+◌, ◌≤◌, Bool, true, false, if◌then◌else◌, List, [], ◌∷◌, ◌++◌, length, map, take, drop, Option, Some, None, Result, Ok, Err, IfOk, refl, sym, ap, ◌∙◌, subst, arith, length-append, length-take-le, take-append-drop}
+use Rattle.std.proofs.Common.{◌≡◌, ℕ, Bool, true, false, if◌then◌else◌, List, [], ◌∷◌, ◌++◌, length, drop, Option, Some, None, Result, Ok, Err, IfOk, refl, sym, ap, ◌∙◌, subst, length-take-le, take-append-drop}
 use Rattle.std.proofs.lemmas.Bool.{true≢false, false≢true}
 use Rattle.std.proofs.lemmas.Option.{none-some, some_pair_parts}
 use Rattle.ms_text.specs.declared.token.Token.{Token}
@@ -7,7 +7,7 @@ use Rattle.ms_text.specs.declared.token.TokenKind.{TokenKind}
 use Rattle.ms_text.specs.declared.token.TokenKind.TheVariants.{LeftParen, Name, Number, Text}
 use Rattle.ms_grammar.specs.declared.value.Value.{Value}
 use Rattle.ms_grammar.specs.declared.part.ValuePart.{ValuePart}
-use Rattle.ms_grammar.specs.Words.{Word, name, number, quoted, sign, word_by_kind, word_of, words_of}
+use Rattle.ms_grammar.specs.Words.{Word, name, word_by_kind, words_of}
 use Rattle.ms_grammar.specs.Values.{Spelling, numeral, negative, string, constant, no_arguments, function, empty_tuple, tuple, tuple_comma, value_words, value_part}
 use Rattle.ms_grammar.specs.Reading.{EndsValue, IsRead}
 use Rattle.ms_call.specs.Commands.{IsValue, IsAtom, BeginsWithName}

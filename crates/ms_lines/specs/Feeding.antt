@@ -1,6 +1,6 @@
 -- What a script says next, and what it says after that.
-use Rattle.std.specs.Prelude.{ℕ, ◌≡◌, ◌<◌, ◌↔◌, ⊤, length, Bool, true, false, List, [], ◌∷◌, ◌++◌, Option, Some, None}
-use Rattle.ms_call.specs.Items.{Item, command, bad_line, Open, Says, with_item, HaveItems, HasWholeItems, lines_in}
+use Rattle.std.specs.Prelude.{ℕ, ◌≡◌, ◌<◌, ◌↔◌, ⊤, length, Bool, true, List, [], ◌++◌, Option, Some, None}
+use Rattle.ms_call.specs.Items.{Item, command, bad_line, Open, with_item, HaveItems, lines_in}
 use Rattle.ms_lines.specs.Buffers.{LacksLine}
 use Rattle.ms_lines.specs.declared.Lines.{Lines}
 use Rattle.ms_lines.specs.declared.Fed.{Fed}

@@ -1,6 +1,6 @@
 -- What a reader finds.
-use Rattle.std.specs.Prelude.{ℕ, suc, ◌≡◌, ◌≢◌, ◌<◌, ◌≤◌, List, [], ◌∷◌, ◌++◌, length, Option, Some, None, IfSome}
-use Rattle.ms_text.specs.declared.token.TokenKind.TheVariants.{RightParen, LeftParen}
+use Rattle.std.specs.Prelude.{ℕ, ◌≡◌, ◌≢◌, ◌<◌, ◌≤◌, List, [], ◌∷◌, ◌++◌, length, Option, Some, None, IfSome}
+use Rattle.ms_text.specs.declared.token.TokenKind.TheVariants.{RightParen}
 use Rattle.ms_grammar.specs.declared.value.Value.{Value}
 use Rattle.ms_grammar.specs.Words.{Word, name, sign}
 use Rattle.ms_grammar.specs.Reading.{EndsValue}

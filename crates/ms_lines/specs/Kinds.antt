@@ -1,6 +1,5 @@
 -- What the crate finds of a line, in the words of the script's definitions.
 use Rattle.std.specs.Prelude.{◌≡◌, ℕ, List, ◌∷◌}
-use Rattle.ms_call.specs.declared.command.Command.{Command}
 use Rattle.ms_call.specs.Lines.{is_space, skipped, IsBlank, OpensText, IsCommand, IsBad}
 use Rattle.ms_lines.specs.declared.kinds.LineKind.{LineKind}
 use Rattle.ms_lines.specs.declared.kinds.LineKind.TheVariants.{Passed, OpensText as opens_text, Command as is_command, Bad}

@@ -1,5 +1,5 @@
 use Rattle.std.proofs.Common.{None}
-use Rattle.ms_lines.proofs.LineSteps.{says_at_end, said_after, err_after, shorter_after, shorter_item}
+use Rattle.ms_lines.proofs.LineSteps.{says_at_end, said_after, err_after, shorter_after}
 use Rattle.ms_lines.proofs.Lines.end.Goals as goal
 
 pub returns-in-NotYet-clause-said : goal.returns-in-NotYet-clause-said

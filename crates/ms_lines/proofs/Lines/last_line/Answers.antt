@@ -1,4 +1,4 @@
-use Rattle.std.proofs.Common.{◌≡◌, [], sym, ◌∙◌, refl}
+use Rattle.std.proofs.Common.{sym, ◌∙◌, refl}
 use Rattle.std.proofs.lemmas.Bool.{false≢true}
 use Rattle.ms_lines.proofs.LineSteps.{at_end_pushed, said_after, err_after, ended_said, ended_err, ended_all, ended_shorter}
 use Rattle.ms_lines.proofs.Lines.last_line.Goals as goal

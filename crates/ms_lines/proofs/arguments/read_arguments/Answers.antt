@@ -1,4 +1,4 @@
-use Rattle.std.proofs.Common.{◌∷◌, length, sym, subst}
+use Rattle.std.proofs.Common.{length, sym, subst}
 use Rattle.ms_grammar.specs.Words.{words_of}
 use Rattle.ms_lines.specs.Finding.{IsOnly, AreClosed}
 use Rattle.ms_lines.proofs.ArgumentFronts.{arguments_none, arguments_some}

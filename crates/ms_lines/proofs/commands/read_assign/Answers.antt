@@ -1,5 +1,4 @@
 use Rattle.ms_lines.proofs.CommandLemmas.{assign_none, assign_read}
-use Rattle.ms_lines.proofs.SignLemmas.{drop_within}
 use Rattle.ms_lines.proofs.commands.read_assign.Goals as goal
 
 pub returns-in_default : goal.returns-in_default

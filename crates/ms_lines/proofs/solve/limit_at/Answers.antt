@@ -1,6 +1,6 @@
 use Rattle.ms_lines.proofs.SignLemmas.{after_within, first_within}
 use Rattle.ms_lines.proofs.NameLemmas.{after_name_within}
-use Rattle.ms_lines.proofs.SolveLemmas.{no_limit_name, no_limit_sign, no_limit_end, limit_read}
+use Rattle.ms_lines.proofs.SolveLemmas.{no_limit_name, no_limit_sign}
 use Rattle.ms_lines.proofs.solve.limit_at.Goals as goal
 
 pub returns-in_default : goal.returns-in_default

@@ -1,4 +1,4 @@
-use Rattle.std.proofs.Common.{[], length, ap, eqb, sym, ◌∙◌, true≢false}
+use Rattle.std.proofs.Common.{length, ap, eqb, sym, ◌∙◌, true≢false}
 use Rattle.ms_lines.proofs.SolveLemmas.{assume_with, assume_not}
 use Rattle.ms_lines.proofs.solve.read_assume.Goals as goal
 

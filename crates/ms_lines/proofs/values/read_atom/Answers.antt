@@ -1,5 +1,5 @@
 use Rattle.std.proofs.Common.{sym, ◌∙◌}
-use Rattle.ms_lines.proofs.ValueFronts.{atom_if_name, none_if_no_name}
+use Rattle.ms_lines.proofs.ValueFronts.{atom_if_name}
 use Rattle.ms_lines.proofs.values.read_atom.Goals as goal
 
 pub returns-then-begins_with_name-clause-found : goal.returns-then-begins_with_name-clause-found
