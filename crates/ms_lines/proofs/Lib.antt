@@ -11,3 +11,4 @@ pub mod SolveLemmas
 pub mod CommandLemmas
 pub mod LineKinds
 pub mod LineSteps
+pub mod WholeScripts

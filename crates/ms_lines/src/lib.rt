@@ -13,6 +13,7 @@ mod calls;
 mod commands;
 mod kinds;
 mod literals;
+mod pieces;
 mod signs;
 mod solve;
 mod texts;
@@ -23,6 +24,7 @@ use buffer::Buffer;
 use kinds::{LineKind, line_kind};
 pub use ms_base::memory::OutOfMemory;
 pub use ms_call::command::{Assumption, Assumptions, Call, Calls, Command, Truth};
+pub use pieces::{Script, read_pieces};
 use std::alloc::Global;
 use texts::{Text, ends_text};
 
