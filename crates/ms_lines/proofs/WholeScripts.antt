@@ -1,6 +1,8 @@
 -- All that a script says, piece by piece.
-use Rattle.std.proofs.Common.{◌≡◌, ◌≢◌, ◌↔◌, ℕ, ◌+◌, ◌<◌, Bool, true, false, List, [], ◌∷◌, ◌++◌, length, take, drop, Option, Some, None, IsTrue, IsSome, refl, sym, ap, ◌∙◌, subst, arith, append-nil, append_assoc}
+use Rattle.std.proofs.Common.{◌≡◌, ◌≢◌, ◌↔◌, ℕ, ◌+◌, ◌<◌, Bool, true, false, List, [], ◌∷◌, ◌++◌, length, take, get_or, Option, Some, None, IsTrue, IsSome, refl, sym, ap, ◌∙◌, subst, arith, append-nil, append_assoc}
 use Rattle.std.specs.List.{flat_map}
+use Rattle.std.proofs.lemmas.List.{take_more}
+use Rattle.std.proofs.lemmas.List.Concat.{flat_map-append}
 use Rattle.ms_call.specs.Items.{Item, Open, with_item, HaveItems, HasItems, lines_in}
 use Rattle.ms_lines.specs.declared.Lines.{Lines}
 use Rattle.ms_lines.specs.declared.Fed.{Fed}
@@ -115,3 +117,10 @@ pub last_shortens : (fed : Fed) (before after : List ℕ) → (fed ≡ NotYet �
 last_shortens (is_fed c) before after some h = h
 last_shortens BadCommand before after some h = h
 last_shortens NotYet before after some h = absurd (some refl)
+
+-- the bytes of one more piece
+pub pieces_more : (pieces : List (List ℕ)) (i : ℕ) (piece : List ℕ) → i < length pieces → piece ≡ get_or pieces i piece → flat_map (λ p. p) (take (i + 1) pieces) ≡ flat_map (λ p. p) (take i pieces) ++ piece
+pieces_more pieces i piece inside is =
+    ap (flat_map (λ p. p)) (take_more pieces i piece inside)
+    ∙ flat_map-append (λ p. p) (take i pieces) (get_or pieces i piece ∷ [])
+    ∙ ap (λ p. flat_map (λ p. p) (take i pieces) ++ p) (append-nil (get_or pieces i piece) ∙ sym is)
