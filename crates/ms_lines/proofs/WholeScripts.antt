@@ -25,67 +25,74 @@ items_of-push (f ∷ feds) fed others =
 
 module _ (bytes : List ℕ) (said : List Fed) (lines after : Lines) (fed : Fed) (next : List Fed) (pushed : next ≡ said ++ fed ∷ []) where
   pub told_item : HasTold bytes said lines → SaysThen lines (item_of fed) after → HasTold bytes next after
-  told_item h s ended more items left =
-      (λ a.
-         let b = (h ended more items left).0 a in
-         let c = (s ended more b.0 left).0 b.2 in
-         (c.0, b.1 ∙ ap (λ is. items_of said ++ is) c.1 ∙ sym (items_of-push said fed c.0) ∙ ap (λ feds. items_of feds ++ c.0) (sym pushed), c.2),
-       λ b.
-         (h ended more items left).1
-         (with_item (item_of fed) b.0, b.1 ∙ ap (λ feds. items_of feds ++ b.0) pushed ∙ items_of-push said fed b.0, (s ended more (with_item (item_of fed) b.0) left).1 (b.0, refl, b.2)))
+  told_item h s ended more items left = (
+    λ a.
+        let b = (h ended more items left).0 a in
+        let c = (s ended more b.0 left).0 b.2 in
+        (c.0, b.1 ∙ ap (λ is. items_of said ++ is) c.1 ∙ sym (items_of-push said fed c.0) ∙ ap (λ feds. items_of feds ++ c.0) (sym pushed), c.2),
+    λ b.
+        (h ended more items left).1
+        (with_item (item_of fed) b.0, b.1 ∙ ap (λ feds. items_of feds ++ b.0) pushed ∙ items_of-push said fed b.0, (s ended more (with_item (item_of fed) b.0) left).1 (b.0, refl, b.2)),
+  )
 
   pub told_item_at_end : HasToldAtEnd bytes said lines → SaysAtEnd lines (item_of fed) after → HasToldAtEnd bytes next after
-  told_item_at_end h s items left =
-      (λ a.
-         let b = (h items left).0 a in
-         let c = (s b.0 left).0 b.2 in
-         (c.0, b.1 ∙ ap (λ is. items_of said ++ is) c.1 ∙ sym (items_of-push said fed c.0) ∙ ap (λ feds. items_of feds ++ c.0) (sym pushed), c.2),
-       λ b.
-         (h items left).1
-         (with_item (item_of fed) b.0, b.1 ∙ ap (λ feds. items_of feds ++ b.0) pushed ∙ items_of-push said fed b.0, (s (with_item (item_of fed) b.0) left).1 (b.0, refl, b.2)))
+  told_item_at_end h s items left = (
+    λ a.
+        let b = (h items left).0 a in
+        let c = (s b.0 left).0 b.2 in
+        (c.0, b.1 ∙ ap (λ is. items_of said ++ is) c.1 ∙ sym (items_of-push said fed c.0) ∙ ap (λ feds. items_of feds ++ c.0) (sym pushed), c.2),
+    λ b.
+        (h items left).1
+        (with_item (item_of fed) b.0, b.1 ∙ ap (λ feds. items_of feds ++ b.0) pushed ∙ items_of-push said fed b.0, (s (with_item (item_of fed) b.0) left).1 (b.0, refl, b.2)),
+  )
 
 -- nothing more
 pub told_nothing : (bytes : List ℕ) (said : List Fed) (lines after : Lines) → HasTold bytes said lines → SaysThen lines None after → HasTold bytes said after
-told_nothing bytes said lines after h s ended more items left =
-    (λ a.
-       let b = (h ended more items left).0 a in
-       let c = (s ended more b.0 left).0 b.2 in
-       (c.0, b.1 ∙ ap (λ is. items_of said ++ is) c.1, c.2),
-     λ b. (h ended more items left).1 (b.0, b.1, (s ended more b.0 left).1 (b.0, refl, b.2)))
+told_nothing bytes said lines after h s ended more items left = (
+  λ a.
+      let b = (h ended more items left).0 a in
+      let c = (s ended more b.0 left).0 b.2 in
+      (c.0, b.1 ∙ ap (λ is. items_of said ++ is) c.1, c.2),
+  λ b. (h ended more items left).1 (b.0, b.1, (s ended more b.0 left).1 (b.0, refl, b.2)),
+)
 
 pub told_nothing_at_end : (bytes : List ℕ) (said : List Fed) (lines after : Lines) → HasToldAtEnd bytes said lines → SaysAtEnd lines None after → HasToldAtEnd bytes said after
-told_nothing_at_end bytes said lines after h s items left =
-    (λ a.
-       let b = (h items left).0 a in
-       let c = (s b.0 left).0 b.2 in
-       (c.0, b.1 ∙ ap (λ is. items_of said ++ is) c.1, c.2),
-     λ b. (h items left).1 (b.0, b.1, (s b.0 left).1 (b.0, refl, b.2)))
+told_nothing_at_end bytes said lines after h s items left = (
+  λ a.
+      let b = (h items left).0 a in
+      let c = (s b.0 left).0 b.2 in
+      (c.0, b.1 ∙ ap (λ is. items_of said ++ is) c.1, c.2),
+  λ b. (h items left).1 (b.0, b.1, (s b.0 left).1 (b.0, refl, b.2)),
+)
 
 -- one more piece
 pub told_piece : (bytes piece : List ℕ) (said : List Fed) (lines after : Lines) → after ≡ record lines { rest = lines.rest ++ piece } → HasTold bytes said lines → HasTold (bytes ++ piece) said after
 told_piece bytes piece said lines after e h ended more items left =
     let front : lines_in ended (bytes ++ piece ++ more) ≡ lines_in ended (bytes ++ (piece ++ more)) = ap (lines_in ended) (append_assoc bytes piece more) in
     let text : after.text ≡ lines.text = ap (λ l. l.text) e in
-    let rest : lines_in ended (after.rest ++ more) ≡ lines_in ended (lines.rest ++ (piece ++ more)) = ap (λ l. lines_in ended (l.rest ++ more)) e ∙ ap (lines_in ended) (append_assoc lines.rest piece more) in
-    (λ a.
-       let b = (h ended (piece ++ more) items left).0 (subst (λ ls. HaveItems None ls items left) front a) in
-       (b.0, b.1, subst (λ t. HaveItems t (lines_in ended (after.rest ++ more)) b.0 left) (sym text) (subst (λ ls. HaveItems lines.text ls b.0 left) (sym rest) b.2)),
-     λ b.
-       subst (λ ls. HaveItems None ls items left) (sym front)
-       ((h ended (piece ++ more) items left).1 (b.0, b.1, subst (λ ls. HaveItems lines.text ls b.0 left) rest (subst (λ t. HaveItems t (lines_in ended (after.rest ++ more)) b.0 left) text b.2))))
+    let rest : lines_in ended (after.rest ++ more) ≡ lines_in ended (lines.rest ++ (piece ++ more)) = ap (λ l. lines_in ended (l.rest ++ more)) e ∙ ap (lines_in ended) (append_assoc lines.rest piece more) in (
+      λ a.
+          let b = (h ended (piece ++ more) items left).0 (subst (λ ls. HaveItems None ls items left) front a) in
+          (b.0, b.1, subst (λ t. HaveItems t (lines_in ended (after.rest ++ more)) b.0 left) (sym text) (subst (λ ls. HaveItems lines.text ls b.0 left) (sym rest) b.2)),
+      λ b.
+          subst (λ ls. HaveItems None ls items left) (sym front)
+          ((h ended (piece ++ more) items left).1 (b.0, b.1, subst (λ ls. HaveItems lines.text ls b.0 left) rest (subst (λ t. HaveItems t (lines_in ended (after.rest ++ more)) b.0 left) text b.2))),
+    )
 
 -- a script of which nothing came
 pub told_first : (lines : Lines) → lines ≡ record { text = None; rest = [] } → HasTold [] [] lines
-told_first lines e ended more items left =
-    (λ a. (items, refl, subst (λ l. HasLeft l ended more items left) (sym e) a),
-     λ b. subst (λ is. HaveItems None (lines_in ended more) is left) (sym b.1) (subst (λ l. HasLeft l ended more b.0 left) e b.2))
+told_first lines e ended more items left = (
+  λ a. (items, refl, subst (λ l. HasLeft l ended more items left) (sym e) a),
+  λ b. subst (λ is. HaveItems None (lines_in ended more) is left) (sym b.1) (subst (λ l. HasLeft l ended more b.0 left) e b.2),
+)
 
 -- no piece is left
 pub told_at_end : (bytes : List ℕ) (said : List Fed) (lines : Lines) → HasTold bytes said lines → HasToldAtEnd bytes said lines
 told_at_end bytes said lines h items left =
-    let same : bytes ++ [] ≡ bytes = append-nil bytes in
-    (λ a. (h true [] items left).0 (subst (λ bs. HasItems None bs items left) (sym same) a),
-     λ b. subst (λ bs. HasItems None bs items left) same ((h true [] items left).1 b))
+    let same : bytes ++ [] ≡ bytes = append-nil bytes in (
+      λ a. (h true [] items left).0 (subst (λ bs. HasItems None bs items left) (sym same) a),
+      λ b. subst (λ bs. HasItems None bs items left) same ((h true [] items left).1 b),
+    )
 
 -- nothing is left to read
 nothing_left : (lines : Lines) → lines.rest ≡ [] → (items : List Item) (left : Open) → HasLeft lines true [] items left → (items ≡ []) × (left ≡ lines.text)
@@ -101,9 +108,9 @@ says_all bytes said lines h none unfinished is = record {
   left = lines.text;
   has = (h (items_of said) lines.text).1 ([], sym (append-nil (items_of said)), left_open lines none);
   only = λ others other a.
-    let b = (h others other).0 a in
-    let c = nothing_left lines none b.0 other b.2 in
-    (b.1 ∙ ap (λ is. items_of said ++ is) c.0 ∙ append-nil (items_of said), c.1);
+      let b = (h others other).0 a in
+      let c = nothing_left lines none b.0 other b.2 in
+      (b.1 ∙ ap (λ is. items_of said ++ is) c.0 ∙ append-nil (items_of said), c.1);
   is_open = is;
 }
 

@@ -38,7 +38,9 @@ pub enum Fed {
     NotYet,
 }
 
-/// A script of which some came and isn't given yet.
+/// A script of which some came and isn't given yet. Each call says what comes first of what is left, whatever
+/// may come after it. So it doesn't matter how the script is cut into pieces: `read_pieces` says so of a whole
+/// script.
 #[derive(Drop)]
 pub struct Lines {
     /// The lines of an `@add` without its `@end`.

@@ -1,4 +1,5 @@
 use super::*;
+use ms_base::seq::Bytes;
 use ms_grammar::value::Value;
 use std::process::Abort;
 use std::test::Fail;
@@ -403,6 +404,26 @@ fn reads_scripts_in_any_pieces(rt: HostRuntime) -> Result<(), Fail> {
         let (first, rest) = script.split_at(cut);
         let out = said(rt.alloc(), &[first, rest])?;
         assert_eq!(rt; out.as_slice(), says, "cut at {cut}");
+    }
+    Ok(())
+}
+
+#[test]
+fn reads_whole_scripts_byte_by_byte(rt: HostRuntime) -> Result<(), Fail> {
+    for row in ROWS {
+        let mut pieces = Vec::new(rt.alloc());
+        for byte in row.script {
+            pieces.push(Bytes::copied(rt.alloc(), &[*byte])?)?;
+        }
+        let script = read_pieces(rt.alloc(), pieces.as_slice())?;
+        let mut out = Vec::new(rt.alloc());
+        for fed in script.said.as_slice() {
+            write_fed(&mut out, fed)?;
+        }
+        if script.unfinished {
+            out.push(b'?')?;
+        }
+        assert_eq!(rt; out.as_slice(), row.says, "{}", row.message);
     }
     Ok(())
 }
