@@ -1,0 +1,8 @@
+pub mod Words
+pub mod Signs
+pub mod Limits
+pub mod Finding
+pub mod Buffers
+pub mod Feeding
+pub mod Whole
+pub mod Kinds
