@@ -1,0 +1,31 @@
+-- What is printed of a value.
+use Rattle.std.specs.Prelude.{ℕ, ℤ, pos, negsuc, suc, List, [], ◌∷◌, ◌++◌}
+use Rattle.ms_text.specs.declared.token.TokenKind.TheVariants.{Minus}
+use Rattle.ms_grammar.specs.declared.value.Value.{Value}
+use Rattle.ms_grammar.specs.declared.value.Value.TheOpen.{Value-F}
+use Rattle.ms_grammar.specs.declared.value.Value.TheFolds.{fold-Value}
+use Rattle.ms_grammar.specs.Words.{name, number, quoted}
+use Rattle.ms_ast.specs.Ink.{Ink, word, mark, in_parens, side_by_side, comma}
+
+abbrev pub integer_ink : ℤ → List Ink
+integer_ink (pos n) = word (number n) ∷ []
+integer_ink (negsuc n) = mark Minus ∷ word (number (suc n)) ∷ []
+
+-- a tuple: one value stands with a comma
+abbrev pub tuple_ink : List (List Ink) → List Ink
+tuple_ink (ink ∷ []) = in_parens (ink ++ comma)
+tuple_ink inks = in_parens (side_by_side comma inks)
+
+-- a constant has no parentheses
+abbrev pub function_ink : List ℕ → List (List Ink) → List Ink
+function_ink [] inks = tuple_ink inks
+function_ink (b ∷ bs) [] = word (name (b ∷ bs)) ∷ []
+function_ink (b ∷ bs) (ink ∷ inks) = word (name (b ∷ bs)) ∷ in_parens (side_by_side comma (ink ∷ inks))
+
+abbrev pub value_ink_of : Value-F (List Ink) → List Ink
+value_ink_of (Value-F.Number n) = integer_ink n
+value_ink_of (Value-F.Text s) = word (quoted s) ∷ []
+value_ink_of (Value-F.Function f inks) = function_ink f inks
+
+abbrev pub value_ink : Value → List Ink
+value_ink = fold-Value (List Ink) value_ink_of
