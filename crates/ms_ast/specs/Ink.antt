@@ -78,7 +78,7 @@ in_parens ink = mark LeftParen ∷ ink ++ mark RightParen ∷ []
 -- each behind what stands between
 abbrev pub each_after : List Ink → List (List Ink) → List Ink
 each_after between [] = []
-each_after between (ink ∷ more) = between ++ ink ++ each_after between more
+each_after between (ink ∷ more) = between ++ (ink ++ each_after between more)
 
 -- side by side, with something between each two
 abbrev pub side_by_side : List Ink → List (List Ink) → List Ink

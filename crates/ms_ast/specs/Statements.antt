@@ -34,7 +34,7 @@ cmp_kind Ge = GreaterEqual
 abbrev pub literal_ink : TextLit → List Ink
 literal_ink (Positive t) = term_ink t
 literal_ink (Negated t) = mark Not ∷ blank ∷ term_ink t
-literal_ink (Test l cmp r) = term_ink l ++ apart (cmp_kind cmp) ++ term_ink r
+literal_ink (Test l cmp r) = term_ink l ++ (apart (cmp_kind cmp) ++ term_ink r)
 
 -- a colon stands only before conditions
 abbrev pub conditions_ink : List TextLit → List Ink
@@ -60,10 +60,10 @@ abbrev pub in_braces : List (List Ink) → List Ink
 in_braces elements = mark LeftBrace ∷ side_by_side semicolon_blank elements ++ mark RightBrace ∷ []
 
 abbrev pub set_ink : TextSet → List Ink
-set_ink s = left_ink s.left ++ in_braces (map set_element_ink s.elements) ++ right_ink s.right
+set_ink s = left_ink s.left ++ (in_braces (map set_element_ink s.elements) ++ right_ink s.right)
 
 abbrev pub agg_ink : TextAgg → List Ink
-agg_ink a = left_ink a.left ++ mark (function_kind a.function) ∷ in_braces (map agg_element_ink a.elements) ++ right_ink a.right
+agg_ink a = left_ink a.left ++ (mark (function_kind a.function) ∷ (in_braces (map agg_element_ink a.elements) ++ right_ink a.right))
 
 abbrev pub negation_ink : Bool → List Ink
 negation_ink true = mark Not ∷ blank ∷ []

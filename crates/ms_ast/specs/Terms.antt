@@ -66,8 +66,11 @@ abbrev pub function : List ℕ → List (List Printed) → Printed
 function [] lists = tuple lists
 function (b ∷ bs) lists = on_line Primary (named (b ∷ bs) lists)
 
+abbrev pub alternatives_ink : List Printed → List Ink
+alternatives_ink alternatives = side_by_side semicolon (map (λ p. p.inside) alternatives)
+
 abbrev pub pool : List Printed → Printed
-pool alternatives = on_line Primary (in_parens (side_by_side semicolon (map (λ p. p.inside) alternatives)))
+pool alternatives = on_line Primary (in_parens (alternatives_ink alternatives))
 
 abbrev pub op_kind : Op → TokenKind
 op_kind Add = Plus
