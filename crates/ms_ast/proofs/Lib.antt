@@ -1,2 +1,4 @@
 pub mod Inks
+pub mod Printing
 pub mod Sizes
+pub mod TermTexts

@@ -1,5 +1,5 @@
 -- What is printed of a term: no more parentheses than the grammar needs.
-use Rattle.std.specs.Prelude.{ℕ, ℤ, pos, negsuc, suc, nat_le, if◌then◌else◌, List, [], ◌∷◌, ◌++◌, map}
+use Rattle.std.specs.Prelude.{ℕ, Bool, true, false, ℤ, pos, negsuc, suc, nat_le, if◌then◌else◌, List, [], ◌∷◌, ◌++◌, map}
 use Rattle.ms_text.specs.declared.token.TokenKind.{TokenKind}
 use Rattle.ms_text.specs.declared.token.TokenKind.TheVariants.{DotDot, Plus, Minus, Star, Slash, Backslash, Bar}
 use Rattle.ms_tree.specs.declared.op.Op.{Op}
@@ -56,6 +56,11 @@ tuple_inside (p ∷ q ∷ more) = list_ink (p ∷ q ∷ more)
 abbrev pub tuple : List (List Printed) → Printed
 tuple [] = parenthesis []
 tuple (list ∷ lists) = parenthesis (tuple_inside list)
+
+-- the lists of a constant
+abbrev pub are_no_arguments : {A : Type 0} → List (List A) → Bool
+are_no_arguments ([] ∷ []) = true
+are_no_arguments lists = false
 
 -- a constant has no parentheses
 abbrev pub named : List ℕ → List (List Printed) → List Ink

@@ -1,7 +1,7 @@
 // Terms as they are printed.
 ghost use Rattle.std.specs.Prelude.{◌≡◌, [], ◌∷◌, ◌++◌, map, OnOk};
 ghost use Rattle.ms_ast.specs.Ink.{ink_text, sign_text};
-ghost use Rattle.ms_ast.specs.Terms.{printed, at_line, op_kind, op_line, right_line, list_ink, lists_ink, tuple, function, alternatives_ink};
+ghost use Rattle.ms_ast.specs.Terms.{printed, at_line, op_kind, op_line, right_line, list_ink, lists_ink, tuple, function, alternatives_ink, are_no_arguments};
 
 use crate::line::Line;
 use crate::word::{print_integer, print_string};
@@ -27,11 +27,13 @@ pub(crate) fn print_term(term: &TextTerm, into: &mut Vec<u8>) -> Result<(), OutO
         TextTerm::Interval(low, high) => {
             print_at(Line::Sum, low.get(), into)?;
             into.extend_from_slice(b"..")?;
-            print_at(Line::Sum, high.get(), into)
+            print_at(Line::Sum, high.get(), into)?;
+            Ok(())
         }
         TextTerm::Neg(of) => {
             into.push(b'-')?;
-            print_at(Line::Unary, of.get(), into)
+            print_at(Line::Unary, of.get(), into)?;
+            Ok(())
         }
         TextTerm::Abs(of) => {
             into.push(b'|')?;
@@ -42,7 +44,8 @@ pub(crate) fn print_term(term: &TextTerm, into: &mut Vec<u8>) -> Result<(), OutO
         TextTerm::Binary(op, left, right) => {
             print_at(op_line(*op), left.get(), into)?;
             into.push(op_sign(*op))?;
-            print_at(right_line(*op), right.get(), into)
+            print_at(right_line(*op), right.get(), into)?;
+            Ok(())
         }
     }
 }
@@ -84,14 +87,22 @@ fn print_function(name: &[u8], lists: &[TextTerms], into: &mut Vec<u8>) -> Resul
         return Ok(());
     }
     into.extend_from_slice(name)?;
+    if are_no_arguments(lists) {
+        return Ok(());
+    }
+    into.push(b'(')?;
+    print_lists(lists, into)?;
+    into.push(b')')?;
+    Ok(())
+}
+
+/// Whether the lists are those of a constant.
+fn are_no_arguments(lists: &[TextTerms]) -> bool
+    ensures { result ≡ are_no_arguments lists.now }
+{
     match lists {
-        [list] if list.is_empty() => Ok(()),
-        _ => {
-            into.push(b'(')?;
-            print_lists(lists, into)?;
-            into.push(b')')?;
-            Ok(())
-        }
+        [list] => list.is_empty(),
+        _ => false,
     }
 }
 
