@@ -12,15 +12,20 @@ integer_ink (pos n) = word (number n) ∷ []
 integer_ink (negsuc n) = mark Minus ∷ word (number (suc n)) ∷ []
 
 -- a tuple: one value stands with a comma
-abbrev pub tuple_ink : List (List Ink) → List Ink
-tuple_ink (ink ∷ []) = in_parens (ink ++ comma)
-tuple_ink inks = in_parens (side_by_side comma inks)
+abbrev pub tuple_inside : List (List Ink) → List Ink
+tuple_inside (ink ∷ []) = ink ++ comma
+tuple_inside inks = side_by_side comma inks
 
 -- a constant has no parentheses
 abbrev pub function_ink : List ℕ → List (List Ink) → List Ink
-function_ink [] inks = tuple_ink inks
+function_ink [] inks = in_parens (tuple_inside inks)
 function_ink (b ∷ bs) [] = word (name (b ∷ bs)) ∷ []
 function_ink (b ∷ bs) (ink ∷ inks) = word (name (b ∷ bs)) ∷ in_parens (side_by_side comma (ink ∷ inks))
+
+-- what ends the text of a function
+abbrev pub closing_text : List ℕ → List (List Ink) → List ℕ
+closing_text [] (ink ∷ []) = 44 ∷ 41 ∷ []
+closing_text f inks = 41 ∷ []
 
 abbrev pub value_ink_of : Value-F (List Ink) → List Ink
 value_ink_of (Value-F.Number n) = integer_ink n
