@@ -1,3 +1,4 @@
+pub mod FormTexts
 pub mod Inks
 pub mod Printing
 pub mod Sizes

@@ -1,5 +1,5 @@
 -- What is printed of a value.
-use Rattle.std.specs.Prelude.{ℕ, ℤ, pos, negsuc, suc, List, [], ◌∷◌, ◌++◌}
+use Rattle.std.specs.Prelude.{ℕ, Bool, true, false, ℤ, pos, negsuc, suc, List, [], ◌∷◌, ◌++◌}
 use Rattle.ms_text.specs.declared.token.TokenKind.TheVariants.{Minus}
 use Rattle.ms_grammar.specs.declared.value.Value.{Value}
 use Rattle.ms_grammar.specs.declared.value.Value.TheOpen.{Value-F}
@@ -21,6 +21,11 @@ abbrev pub function_ink : List ℕ → List (List Ink) → List Ink
 function_ink [] inks = in_parens (tuple_inside inks)
 function_ink (b ∷ bs) [] = word (name (b ∷ bs)) ∷ []
 function_ink (b ∷ bs) (ink ∷ inks) = word (name (b ∷ bs)) ∷ in_parens (side_by_side comma (ink ∷ inks))
+
+-- a name without arguments
+abbrev pub is_constant : {A : Type 0} → List ℕ → List A → Bool
+is_constant (b ∷ bs) [] = true
+is_constant f arguments = false
 
 -- what ends the text of a function
 abbrev pub closing_text : List ℕ → List (List Ink) → List ℕ

@@ -1,7 +1,7 @@
 // Values as they are printed.
 ghost use Rattle.std.specs.Prelude.{◌≡◌, ◌++◌, map, OnOk};
 ghost use Rattle.ms_ast.specs.Ink.{ink_text, side_by_side, comma};
-ghost use Rattle.ms_ast.specs.Values.{value_ink, function_ink, closing_text};
+ghost use Rattle.ms_ast.specs.Values.{value_ink, function_ink, is_constant, closing_text};
 
 use crate::word::{print_integer, print_string};
 use ms_base::memory::OutOfMemory;
@@ -26,13 +26,20 @@ fn print_function(name: &[u8], arguments: &[Value], into: &mut Vec<u8>) -> Resul
     ensures { OnOk result (into.new.items ≡ into.old.items ++ ink_text (function_ink name.now (map value_ink arguments.now))) }
 {
     into.extend_from_slice(name)?;
-    if arguments.is_empty() && !name.is_empty() {
+    if is_constant(name, arguments) {
         return Ok(());
     }
     into.push(b'(')?;
     print_values(arguments, into)?;
     into.extend_from_slice(closing(name, arguments))?;
     Ok(())
+}
+
+/// A name without arguments.
+fn is_constant(name: &[u8], arguments: &[Value]) -> bool
+    ensures { result ≡ is_constant name.now arguments.now }
+{
+    !name.is_empty() && arguments.is_empty()
 }
 
 /// What ends a function with these arguments: a tuple of one has a comma.
