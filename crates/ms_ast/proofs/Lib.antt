@@ -1,8 +1,12 @@
 pub mod Apart
 pub mod Bytes
 pub mod FormTexts
+pub mod Fronts
 pub mod Inks
+pub mod NameTokens
+pub mod NumberTokens
 pub mod Printing
 pub mod Signs
 pub mod Sizes
+pub mod StringTokens
 pub mod TermTexts

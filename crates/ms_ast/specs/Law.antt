@@ -2,14 +2,15 @@
 use Rattle.std.specs.Prelude.{ℕ, ◌≡◌, List, [], ◌∷◌, Ok, Some, length, ⊤}
 use Rattle.ms_text.specs.declared.token.Token.{Token}
 use Rattle.ms_text.specs.declared.token.TokenKind.TheVariants.{Name}
-use Rattle.ms_text.specs.Tokens.{tokens_of, first_token}
+use Rattle.ms_text.specs.Tokens.{tokens_of, name_len, name_kind}
 use Rattle.ms_grammar.specs.declared.statement.Form.{Form}
 use Rattle.ms_grammar.specs.Words.{Word, name, words_of}
 use Rattle.ms_grammar.specs.Statements.{Spells, pieces_of}
 
--- the bytes are a name
-abbrev pub IsName : List ℕ → Type 0
-IsName f = first_token f ≡ Some (Name, length f)
+-- the bytes are a name other than `not`
+pub record IsName (f : List ℕ) : Type 0 where
+  pub all_of_it : name_len f ≡ Some (length f)
+  pub no_word : name_kind f ≡ Name
 
 -- the names among the words are names that a text can have
 abbrev pub HaveNames : List Word → Type 0
