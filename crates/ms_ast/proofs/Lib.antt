@@ -3,10 +3,13 @@ pub mod Bytes
 pub mod FormTexts
 pub mod Fronts
 pub mod Inks
+pub mod Lines
 pub mod NameTokens
+pub mod Names
 pub mod NumberTokens
 pub mod Printing
 pub mod Signs
 pub mod Sizes
+pub mod Somes
 pub mod StringTokens
 pub mod TermTexts
