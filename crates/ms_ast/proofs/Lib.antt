@@ -7,9 +7,12 @@ pub mod Lines
 pub mod NameTokens
 pub mod Names
 pub mod NumberTokens
+pub mod Operations
 pub mod Printing
+pub mod Rows
 pub mod Signs
 pub mod Sizes
 pub mod Somes
 pub mod StringTokens
+pub mod TermLaw
 pub mod TermTexts

@@ -69,7 +69,7 @@ no_arguments_map g ([] ∷ []) = refl
 no_arguments_map g ([] ∷ list ∷ lists) = refl
 no_arguments_map g ((x ∷ xs) ∷ lists) = refl
 
-named_with_arguments : (f : List ℕ) (lists : List (List Printed)) → are_no_arguments lists ≡ false → named f lists ≡ word (name f) ∷ in_parens (lists_ink lists)
+pub named_with_arguments : (f : List ℕ) (lists : List (List Printed)) → are_no_arguments lists ≡ false → named f lists ≡ word (name f) ∷ in_parens (lists_ink lists)
 named_with_arguments f [] e = refl
 named_with_arguments f ([] ∷ []) e = cc
 named_with_arguments f ([] ∷ list ∷ lists) e = refl
