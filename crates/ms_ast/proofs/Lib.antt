@@ -16,3 +16,4 @@ pub mod Somes
 pub mod StringTokens
 pub mod TermLaw
 pub mod TermTexts
+pub mod ValueLaw

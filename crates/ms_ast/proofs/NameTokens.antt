@@ -3,10 +3,11 @@ use Rattle.std.proofs.Common.{◌≡◌, ℕ, suc, ◌+◌, ◌-◌, Bool, true,
 use Rattle.std.specs.List.{slice_range}
 use Rattle.std.specs.Option.{option_map}
 use Rattle.std.proofs.lemmas.Bool.{eqb-true}
+use Rattle.std.proofs.lemmas.Bool.Decides.{nat_tests}
 use Rattle.std.proofs.lemmas.List.Sums.{take_while-cons}
 use Rattle.std.proofs.Math.Seq.{take-append_seam, drop-append_seam}
 use Rattle.ms_text.specs.declared.token.TokenKind.TheVariants.{Name}
-use Rattle.ms_text.specs.Tokens.{is_word, is_lower, name_len, name_kind, name_token, first_token}
+use Rattle.ms_text.specs.Tokens.{is_word, is_lower, name_len, name_kind, name_token, first_token, begins_with}
 use Rattle.ms_grammar.specs.Words.{name}
 use Rattle.ms_ast.specs.Law.{IsName}
 use Rattle.ms_ast.proofs.Apart.{IsToken, Free}
@@ -85,3 +86,12 @@ name_token_of (b ∷ bs) tail h f = record {
   inside = λ t ps. refl;
   reads = λ front line. ap name (part_of_text front (b ∷ bs) tail);
 }
+
+name_no_equal_by : (b : ℕ) (bs : List ℕ) → name_len (b ∷ bs) ≡ Some (length (b ∷ bs)) → (underscore lower : Bool) → eqb b 95 ≡ underscore → is_lower b ≡ lower → eqb b 61 ≡ false
+name_no_equal_by b bs e true lower u l = subst (λ c. eqb c 61 ≡ false) (sym (eqb-true b 95 u)) refl
+name_no_equal_by b bs e false true u l = grind (arith, nat_tests)
+name_no_equal_by b bs e false false u l = let none : None ≡ Some (length (b ∷ bs)) = sym (name_is b bs false false u l) ∙ e in cc
+
+pub name_no_equal : (f tail : List ℕ) → IsName f → begins_with 61 (f ++ tail) ≡ false
+name_no_equal [] tail n = let none : ◌≡◌ {A = Option ℕ} None (Some 0) = n.all_of_it in cc
+name_no_equal (b ∷ bs) tail n = name_no_equal_by b bs n.all_of_it (eqb b 95) (is_lower b) refl refl

@@ -7,7 +7,7 @@ use Rattle.std.proofs.lemmas.Bool.Decides.{nat_tests}
 use Rattle.std.proofs.lemmas.Fmt.{decimal_by_steps, decimal_digit, decimal_nonempty, first_decimal}
 use Rattle.std.proofs.lemmas.List.Sums.{take_while-cons, fold-append}
 use Rattle.ms_text.specs.declared.token.TokenKind.TheVariants.{Number}
-use Rattle.ms_text.specs.Tokens.{is_digit, is_lower, number_of, greatest_number, number_token, number_within, first_token}
+use Rattle.ms_text.specs.Tokens.{is_digit, is_lower, number_of, greatest_number, number_token, number_within, first_token, begins_with}
 use Rattle.ms_grammar.specs.Words.{number}
 use Rattle.ms_ast.specs.Ink.{word_text}
 use Rattle.ms_ast.proofs.Apart.{IsToken, Free}
@@ -87,3 +87,13 @@ number_token_of n tail small f =
     number_token_by (decimal n) tail n refl (numeral n fits)
         (number_first (decimal n) tail n (numeral n fits) small (decimal_nonempty n fits) (λ e. leading n fits e (eqb n 0) refl) f (eqb (get_or (decimal n) 0 0) 48) refl)
         (decimal_nonempty n fits)
+
+digit_no_equal : (d : ℕ) → is_digit d ≡ true → eqb d 61 ≡ false
+digit_no_equal d h = grind (arith, nat_tests)
+
+digits_no_equal : (ds tail : List ℕ) → 0 < length ds → AllDigit ds → begins_with 61 (ds ++ tail) ≡ false
+digits_no_equal [] tail some h = absurd (omega arith)
+digits_no_equal (d ∷ ds) tail some h = digit_no_equal d h.0
+
+pub number_no_equal : (n : ℕ) (tail : List ℕ) → n < 2 ^ 64 → begins_with 61 (decimal n ++ tail) ≡ false
+number_no_equal n tail small = digits_no_equal (decimal n) tail (decimal_nonempty n small) (numeral n small).digits

@@ -38,10 +38,10 @@ side_push b first inks x = ap (λ t. first ++ t) (each_push b inks x) ∙ sym (a
 abbrev pub side_words : TokenKind → List (List Ink) → List Word
 side_words between inks = ink_words (side_by_side (mark between ∷ []) inks)
 
-one_words : (between : TokenKind) (x : List Ink) → ink_words x ≡ side_words between (x ∷ [])
+pub one_words : (between : TokenKind) (x : List Ink) → ink_words x ≡ side_words between (x ∷ [])
 one_words between x = ap ink_words (sym (append-nil x))
 
-more_words : (between : TokenKind) (first : List Ink) (inks : List (List Ink)) (x : List Ink) (ws vs : List Word) → ws ≡ side_words between (first ∷ inks) → vs ≡ ink_words x → ws ++ sign between ∷ vs ≡ side_words between ((first ∷ inks) ++ x ∷ [])
+pub more_words : (between : TokenKind) (first : List Ink) (inks : List (List Ink)) (x : List Ink) (ws vs : List Word) → ws ≡ side_words between (first ∷ inks) → vs ≡ ink_words x → ws ++ sign between ∷ vs ≡ side_words between ((first ∷ inks) ++ x ∷ [])
 more_words between first inks x ws vs e f =
     (λ i. e i ++ sign between ∷ f i)
     ∙ sym (ap ink_words (side_push (mark between ∷ []) first inks x) ∙ ink_words_append (side_by_side (mark between ∷ []) (first ∷ inks)) (mark between ∷ x))
@@ -101,13 +101,13 @@ pushed : (ts : List TextTerm) (t first : TextTerm) (more : List TextTerm) → ts
 pushed ts t first more e = ap (λ us. us ++ t ∷ []) e
 
 -- a list that isn't empty, and one more, are two
-pub record Two (ts : List TextTerm) : Type 0 where
-  pub first : TextTerm
-  pub second : TextTerm
-  pub more : List TextTerm
+pub record Two (A : Type 0) (ts : List A) : Type 0 where
+  pub first : A
+  pub second : A
+  pub more : List A
   pub are : ts ≡ first ∷ second ∷ more
 
-two : (ts : List TextTerm) (t first : TextTerm) (more : List TextTerm) → ts ≡ first ∷ more → Two (ts ++ t ∷ [])
+pub two : {A : Type 0} (ts : List A) (t first : A) (more : List A) → ts ≡ first ∷ more → Two A (ts ++ t ∷ [])
 two ts t first [] e = record { first = first; second = t; more = []; are = ap (λ us. us ++ t ∷ []) e }
 two ts t first (u ∷ us) e = record { first = first; second = u; more = us ++ t ∷ []; are = ap (λ us. us ++ t ∷ []) e }
 
@@ -115,7 +115,7 @@ pub more_terms_shown : (row : Row) (p : Part) → TermsShown row → IsShown p �
 more_terms_shown row p h s =
     let whole : OnLine Interval (ink_words (printed p.term).ink) p = as_whole (printed p.term).line (ink_words (printed p.term).ink) p s.written in
     let inks : term_inks row.terms ≡ term_inks (h.first ∷ h.more) = ap term_inks h.are in
-    let both_are : Two (row.terms ++ p.term ∷ []) = two row.terms p.term h.first h.more h.are in
+    let both_are : Two TextTerm (row.terms ++ p.term ∷ []) = two row.terms p.term h.first h.more h.are in
     record {
       shown = record {
         written = record {
@@ -147,7 +147,7 @@ pub record TuplesShown (row : Row) : Type 0 where
 
 pub record TuplesMany (row : Row) : Type 0 where
   pub shown : TuplesShown row
-  pub two_are : Two row.terms
+  pub two_are : Two TextTerm row.terms
 
 pub one_tuple_shown : (p : Part) → IsShown p → TuplesShown (with_alternative no_alternative p)
 one_tuple_shown p s = record {
@@ -288,20 +288,20 @@ empty_tuple_shown =
     shown_by (leaf (Function [] ([] ∷ []))) (parenthesis []) (function_printed [] ([] ∷ []))
         (parens_shown [] (leaf (Function [] ([] ∷ []))) (record { derivation = g.empty_tuple; words_are = refl; spells = refl }) (omega arith) nothing_joins)
 
-tuple_of_two : (ts : List TextTerm) → Two ts → tuple_inside (map printed ts) ≡ list_ink (map printed ts)
+tuple_of_two : (ts : List TextTerm) → Two TextTerm ts → tuple_inside (map printed ts) ≡ list_ink (map printed ts)
 tuple_of_two ts h = subst (λ us. tuple_inside (map printed us) ≡ list_ink (map printed us)) (sym h.are) refl
 
-grouped_two : (row : Row) (ts : List TextTerm) → Two ts → grouped ts row ≡ tuple_of row
+grouped_two : (row : Row) (ts : List TextTerm) → Two TextTerm ts → grouped ts row ≡ tuple_of row
 grouped_two row ts h = ap (λ us. grouped us row) h.are
 
-pooled_two : (row : Row) (ts : List TextTerm) → Two ts → pooled ts row ≡ g.fitting (record { term = Pool row.terms; height = suc row.height; choices = row.choices })
+pooled_two : (row : Row) (ts : List TextTerm) → Two TextTerm ts → pooled ts row ≡ g.fitting (record { term = Pool row.terms; height = suc row.height; choices = row.choices })
 pooled_two row ts h = ap (λ us. pooled us row) h.are
 
 pub many_tuple_shown : (row : Row) → TermsMany row → IfSome (tuple_of row) IsShown
 many_tuple_shown row h =
     let r : Part = record { term = Function [] (row.terms ∷ []); height = suc row.height; choices = row.choices } in
     let inside : List Ink = list_ink (map printed row.terms) in
-    let both_are : Two row.terms = record { first = h.first; second = h.second; more = h.more; are = h.are } in
+    let both_are : Two TextTerm row.terms = record { first = h.first; second = h.second; more = h.more; are = h.are } in
     let w = h.shown.written in
     fitting_shown r (parenthesis inside) (function_printed [] (row.terms ∷ []) ∙ ap parenthesis (tuple_of_two row.terms both_are)) (λ e.
         parens_shown inside r
@@ -315,7 +315,7 @@ many_tuple_shown row h =
 -- terms without a last comma
 pub many_grouped_shown : (row : Row) → TermsMany row → IfSome (grouped row.terms row) IsShown
 many_grouped_shown row h =
-    let both_are : Two row.terms = record { first = h.first; second = h.second; more = h.more; are = h.are } in
+    let both_are : Two TextTerm row.terms = record { first = h.first; second = h.second; more = h.more; are = h.are } in
     subst (λ o. IfSome o IsShown) (sym (grouped_two row row.terms both_are)) (many_tuple_shown row h)
 
 pub one_grouped_shown : (p : Part) → IsShown p → IfSome (grouped (with_term no_terms p).terms (with_term no_terms p)) IsShown
