@@ -4,10 +4,12 @@ pub mod FormTexts
 pub mod Fronts
 pub mod Inks
 pub mod Lines
+pub mod LiteralLaw
 pub mod NameTokens
 pub mod Names
 pub mod NumberTokens
 pub mod Operations
+pub mod Parts
 pub mod Printing
 pub mod Rows
 pub mod Signs

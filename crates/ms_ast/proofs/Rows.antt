@@ -261,7 +261,7 @@ more_lists_shown rows row h s =
     }
 
 -- a name with its arguments
-named_printed : (b : ℕ) (bs : List ℕ) (lists : List (List TextTerm)) → are_no_arguments lists ≡ false → printed (Function (b ∷ bs) lists) ≡ on_line Primary (word (name (b ∷ bs)) ∷ in_parens (lists_ink (map (map printed) lists)))
+pub named_printed : (b : ℕ) (bs : List ℕ) (lists : List (List TextTerm)) → are_no_arguments lists ≡ false → printed (Function (b ∷ bs) lists) ≡ on_line Primary (word (name (b ∷ bs)) ∷ in_parens (lists_ink (map (map printed) lists)))
 named_printed b bs lists some = function_printed (b ∷ bs) lists ∙ ap (on_line Primary) (named_with_arguments (b ∷ bs) (map (map printed) lists) (no_arguments_map printed lists ∙ some))
 
 pub function_shown : (f : List ℕ) → IsName f → (rows : Rows) → ListsMany rows → IfSome (named f rows) IsShown

@@ -89,17 +89,17 @@ mutual
       let ns = names_split (g.sum_words s) (sign Bar ∷ []) n in
       then_some (g.round Abs) IsShown IsShown abs_shown (g.sum_part s) (sum_shown s ns.0)
 
-  lists_shown : (ls : g.Lists) → HaveNames (g.lists_words ls) → IfSome (g.lists_rows ls) ListsShown
+  pub lists_shown : (ls : g.Lists) → HaveNames (g.lists_words ls) → IfSome (g.lists_rows ls) ListsShown
   lists_shown (g.one_list args) n = map_some g.only_list ArgumentsShown ListsShown one_list_shown (g.arguments_row args) (arguments_shown args n)
   lists_shown (g.or_list lists args) n =
       let ms = names_split (g.lists_words lists) (sign Semicolon ∷ g.arguments_words args) n in
       both_some (λ rows row. Some (g.with_list rows row)) ListsShown ArgumentsShown ListsShown (λ rows row h k. (more_lists_shown rows row h k).shown) (g.lists_rows lists) (g.arguments_row args) (lists_shown lists ms.0) (arguments_shown args ms.1)
 
-  arguments_shown : (a : g.Arguments) → HaveNames (g.arguments_words a) → IfSome (g.arguments_row a) ArgumentsShown
+  pub arguments_shown : (a : g.Arguments) → HaveNames (g.arguments_words a) → IfSome (g.arguments_row a) ArgumentsShown
   arguments_shown g.no_arguments n = no_arguments_shown
   arguments_shown (g.arguments ts) n = weaker TermsShown ArgumentsShown arguments_are_shown (g.terms_row ts) (terms_shown ts n)
 
-  terms_shown : (ts : g.Terms) → HaveNames (g.terms_words ts) → IfSome (g.terms_row ts) TermsShown
+  pub terms_shown : (ts : g.Terms) → HaveNames (g.terms_words ts) → IfSome (g.terms_row ts) TermsShown
   terms_shown (g.one_term t) n = map_some (g.with_term g.no_terms) IsShown TermsShown one_term_shown (g.term_part t) (term_shown t n)
   terms_shown (g.and_term ts t) n =
       let ns = names_split (g.terms_words ts) (sign Comma ∷ g.term_words t) n in
