@@ -11,7 +11,11 @@ pub mod NumberTokens
 pub mod Operations
 pub mod Parts
 pub mod Printing
+pub mod ReadBack
 pub mod Rows
+pub mod RuleLaw
+pub mod SentenceLaw
+pub mod SetLaw
 pub mod Signs
 pub mod Sizes
 pub mod Somes

@@ -39,7 +39,7 @@ module _ (D V : Type 0) (words : D → List Word) (spelled : D → Option (Count
   pub none_printed : ArePrinted (alone [])
   none_printed = record { derivations = []; words_are = refl; spells = refl; all = tt }
 
-  pub more_printed : (c : Counted V) (cs : Counted (List V)) → IsPrinted c → ArePrinted cs → ArePrinted (beside (λ x xs. x ∷ xs) c cs)
+  abbrev pub more_printed : (c : Counted V) (cs : Counted (List V)) → IsPrinted c → ArePrinted cs → ArePrinted (beside (λ x xs. x ∷ xs) c cs)
   more_printed c cs h hs = record {
     derivations = h.written.derivation ∷ hs.derivations;
     words_are = λ i. h.written.words_are i ∷ hs.words_are i;
