@@ -1,5 +1,5 @@
 -- The printed bytes have the printed words as their tokens.
-use Rattle.std.proofs.Common.{◌≡◌, ℕ, suc, ◌+◌, ◌<◌, Bool, true, false, eqb, ◌||◌, List, [], ◌∷◌, ◌++◌, map, length, drop, Option, Some, None, Result, Ok, refl, sym, ap, ◌∙◌, subst, arith, append_assoc, append-nil, length-append}
+use Rattle.std.proofs.Common.{◌≡◌, ℕ, ◌+◌, Bool, true, false, eqb, ◌||◌, List, [], ◌∷◌, ◌++◌, length, Some, None, Ok, refl, sym, ap, ◌∙◌, subst, arith, append_assoc, length-append}
 use Rattle.std.proofs.lemmas.Bool.{eqb-true}
 use Rattle.std.proofs.Math.Seq.{drop-append_seam}
 use Rattle.ms_text.specs.declared.token.Token.{Token}
@@ -7,7 +7,7 @@ use Rattle.ms_text.specs.declared.token.TokenKind.{TokenKind}
 use Rattle.ms_text.specs.declared.token.TokenKind.TheVariants.{Dot}
 use Rattle.ms_text.specs.Tokens.{tokens_from, first_token, is_blank, with_token}
 use Rattle.ms_lex.proofs.Steps.{blank_step, token_step}
-use Rattle.ms_grammar.specs.Words.{Word, sign, word_of, words_of, word_by_kind}
+use Rattle.ms_grammar.specs.Words.{Word, sign, words_of, word_by_kind}
 use Rattle.ms_grammar.specs.Statements.{pieces_of, before_pieces, in_first}
 use Rattle.ms_ast.specs.Ink.{Ink, blank, word, ink_words, ink_text, word_text}
 use Rattle.ms_ast.proofs.Apart.{IsToken, IsSentence, dot, gap, token}
@@ -41,9 +41,9 @@ Steps bytes = (tail : List ℕ) (kind : TokenKind) (at line : ℕ) → Some (kin
 steps : (head : ℕ) (rest : List ℕ) → Steps (head ∷ rest)
 steps head rest tail kind at line first =
     token_step head (rest ++ tail) at line
-        (not_blank head (rest ++ tail) (kind, length (head ∷ rest)) first (is_blank head) refl)
-        (no_comment head (rest ++ tail) (kind, length (head ∷ rest)) first (eqb head 37) refl)
-        kind (length (head ∷ rest)) (omega arith) first
+    (not_blank head (rest ++ tail) (kind, length (head ∷ rest)) first (is_blank head) refl)
+    (no_comment head (rest ++ tail) (kind, length (head ∷ rest)) first (eqb head 37) refl)
+    kind (length (head ∷ rest)) (omega arith) first
     ∙ ap (λ bs. with_token (record { kind = kind; start = at; end = at + length (head ∷ rest); line = line }) (tokens_from 0 bs (at + length (head ∷ rest)) line)) (drop-append_seam (head ∷ rest) tail)
 
 steps_at : (bytes : List ℕ) (head : ℕ) (rest : List ℕ) → bytes ≡ head ∷ rest → Steps bytes

@@ -1,5 +1,5 @@
 -- The bytes of statements in the order in which they are appended.
-use Rattle.std.proofs.Common.{◌≡◌, ℕ, zero, suc, eqb, Bool, true, false, List, [], ◌∷◌, ◌++◌, map, length, Option, Some, None, refl, sym, ap, ◌∙◌, append_assoc, append-nil}
+use Rattle.std.proofs.Common.{◌≡◌, ℕ, eqb, Bool, false, List, [], ◌∷◌, ◌++◌, map, length, Option, Some, refl, sym, ap, ◌∙◌, append_assoc, append-nil}
 use Rattle.std.proofs.lemmas.Simd.{map-map}
 use Rattle.ms_text.specs.declared.token.TokenKind.TheVariants.{LeftBrace, RightBrace}
 use Rattle.ms_grammar.specs.declared.term.TextTerm.{TextTerm}
@@ -67,8 +67,8 @@ agg_text a opening e =
     let right : List Ink = right_ink a.right in
     ap (λ o. ink_text (left_ink a.left) ++ (o ++ (ink_text (side_by_side semicolon_blank inks) ++ ((125 ∷ []) ++ ink_text right)))) e
     ∙ ap (λ t. ink_text (left_ink a.left) ++ t)
-        (append_assoc (sign_text (function_kind a.function)) (123 ∷ []) (ink_text (side_by_side semicolon_blank inks) ++ ((125 ∷ []) ++ ink_text right))
-        ∙ ap (λ t. sign_text (function_kind a.function) ++ t) (braces_text inks right))
+    (append_assoc (sign_text (function_kind a.function)) (123 ∷ []) (ink_text (side_by_side semicolon_blank inks) ++ ((125 ∷ []) ++ ink_text right))
+    ∙ ap (λ t. sign_text (function_kind a.function) ++ t) (braces_text inks right))
     ∙ sym (ink_text_append (left_ink a.left) (mark (function_kind a.function) ∷ (in_braces inks ++ right)))
 
 pub tuple_ink : (ts : List TextTerm) → list_ink (map printed ts) ≡ side_by_side comma (map term_ink ts)

@@ -1,5 +1,5 @@
 -- The token at the front of a text, by tests of its first byte.
-use Rattle.std.proofs.Common.{◌≡◌, ℕ, suc, ◌≤◌, Bool, true, false, eqb, ◌||◌, List, [], ◌∷◌, take_while, Option, Some, None, refl, sym, ap, ◌∙◌, arith, if◌then◌else◌}
+use Rattle.std.proofs.Common.{◌≡◌, ℕ, Bool, true, false, eqb, ◌||◌, List, ◌∷◌, take_while, Option, arith, if◌then◌else◌}
 use Rattle.std.proofs.lemmas.Bool.Decides.{nat_tests}
 use Rattle.ms_text.specs.declared.token.TokenKind.{TokenKind}
 use Rattle.ms_text.specs.Tokens.{is_word, is_digit, is_lower, number_token, text_token, text_len, directive_token, name_token, name_len, sign_token, first_token}

@@ -1,7 +1,5 @@
 -- Ink in parts.
-use Rattle.std.proofs.Common.{◌≡◌, ℕ, List, [], ◌∷◌, ◌++◌, map, refl, sym, ap, ◌∙◌, append_assoc, append-nil}
-use Rattle.ms_grammar.specs.Words as grammar
-use Rattle.ms_grammar.specs.Words.{Word}
+use Rattle.std.proofs.Common.{◌≡◌, ℕ, List, [], ◌∷◌, ◌++◌, map, refl, sym, ap, ◌∙◌, append_assoc}
 use Rattle.ms_ast.specs.Ink.{Ink, blank, word, ink_words, ink_text, piece_text, each_after, side_by_side}
 
 pub ink_text_append : (xs ys : List Ink) → ink_text (xs ++ ys) ≡ ink_text xs ++ ink_text ys

@@ -1,5 +1,5 @@
 -- What is printed of a part, on the line of the grammar on which it stands and where another one is wanted.
-use Rattle.std.proofs.Common.{◌≡◌, ℕ, suc, ◌≤◌, ◌+◌, ◌*◌, min, max, nat_le, Bool, true, false, List, [], ◌∷◌, ◌++◌, map, Option, Some, refl, sym, ap, ◌∙◌, subst, arith, if◌then◌else◌}
+use Rattle.std.proofs.Common.{◌≡◌, ℕ, suc, ◌≤◌, ◌+◌, ◌*◌, max, nat_le, Bool, true, false, List, [], ◌∷◌, ◌++◌, Option, Some, sym, ap, ◌∙◌, subst, arith, if◌then◌else◌}
 use Rattle.std.specs.Option.{IfSome, option_map, option_and_then}
 use Rattle.ms_text.specs.declared.token.TokenKind.TheVariants.{LeftParen, RightParen}
 use Rattle.ms_grammar.specs.declared.part.Part.{Part}
@@ -8,7 +8,7 @@ use Rattle.ms_grammar.specs.Terms as g
 use Rattle.ms_grammar.specs.Terms.{most_choices, most_height, counted, fitting}
 use Rattle.ms_ast.specs.declared.line.Line.{Line}
 use Rattle.ms_ast.specs.declared.line.Line.TheVariants.{Interval, Sum, Product, Unary, Primary}
-use Rattle.ms_ast.specs.Ink.{Ink, word, ink_words, mark, in_parens}
+use Rattle.ms_ast.specs.Ink.{Ink, ink_words, mark, in_parens}
 use Rattle.ms_ast.specs.Terms.{Printed, printed, depth, on_line, parenthesis, at_line}
 use Rattle.ms_ast.proofs.Inks.{ink_words_append}
 use Rattle.ms_ast.proofs.Apart.{Joins}

@@ -11,7 +11,7 @@ use Rattle.ms_grammar.specs.declared.statement.TextLit.TheVariants.{Positive, Ne
 use Rattle.ms_grammar.specs.declared.part.Part.{Part}
 use Rattle.ms_grammar.specs.declared.part.Rows.{Rows}
 use Rattle.ms_grammar.specs.declared.part.Counted.{Counted}
-use Rattle.ms_grammar.specs.Words.{Word, name, sign, separated}
+use Rattle.ms_grammar.specs.Words.{name, sign}
 use Rattle.ms_grammar.specs.Terms as g
 use Rattle.ms_grammar.specs.Terms.{most_height, leaf, named, fitting}
 use Rattle.ms_grammar.specs.Statements as st
@@ -73,7 +73,7 @@ applied_atom (b ∷ bs) n rows h =
     let is : term_ink (Function (b ∷ bs) rows.lists) ≡ ink = ap (λ p. p.ink) (named_printed b bs rows.lists h.some) in
     let w = h.shown.written in
     let joins : Joins ink = name_joins (b ∷ bs) n (in_parens inside) (sign_starts (sign LeftParen) left_paren_sign (inside ++ mark RightParen ∷ []))
-        (parens_join inside (side_joins semicolon semicolon_between (list_inks rows.lists) h.shown.all)) in
+    (parens_join inside (side_joins semicolon semicolon_between (list_inks rows.lists) h.shown.all)) in
     atom_kept (nat_le r.height (suc most_height)) r (λ e. record {
       written = record {
         derivation = st.applied (b ∷ bs) w.derivation;
@@ -97,7 +97,7 @@ atom_is (st.applied f (g.or_list lists args)) n =
     let ns = names_split (g.lists_words (g.or_list lists args)) (sign RightParen ∷ []) n.1 in
     let ms = names_split (g.lists_words lists) (sign Semicolon ∷ g.arguments_words args) ns.0 in
     applied_some f n.0 (g.lists_rows (g.or_list lists args))
-        (both_some (λ rows row. Some (g.with_list rows row)) ListsShown ArgumentsShown ListsMany more_lists_shown (g.lists_rows lists) (g.arguments_row args) (lists_shown lists ms.0) (arguments_shown args ms.1))
+    (both_some (λ rows row. Some (g.with_list rows row)) ListsShown ArgumentsShown ListsMany more_lists_shown (g.lists_rows lists) (g.arguments_row args) (lists_shown lists ms.0) (arguments_shown args ms.1))
 
 -- literals
 abbrev pub LiteralIs : Counted TextLit → Type 0
@@ -182,4 +182,4 @@ conditions_are (st.colon []) n = no_conditions
 conditions_are (st.colon (l ∷ ls)) n =
     let ns = names_each Comma (map literal_words (l ∷ ls)) n in
     both_some (λ c cs. Some (beside (λ x xs. x ∷ xs) c cs)) LiteralIs LiteralsAre ConditionsAre some_conditions (literal_spelled l) (row_of literal_spelled ls)
-        (literal_is l ns.0) (row_printed Literal TextLit literal_words literal_spelled literal_ink literal_is ls ns.1)
+    (literal_is l ns.0) (row_printed Literal TextLit literal_words literal_spelled literal_ink literal_is ls ns.1)

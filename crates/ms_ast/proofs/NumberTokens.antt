@@ -1,17 +1,16 @@
 -- A number before a byte that doesn't go on with it is a token of its own.
-use Rattle.std.proofs.Common.{◌≡◌, ℕ, suc, ◌+◌, ◌-◌, ◌*◌, ◌/◌, ◌%◌, ◌<◌, ◌≤◌, ◌^◌, Bool, true, false, cond, eqb, ◌||◌, nat_le, List, [], ◌∷◌, ◌++◌, length, take_while, get_or, Option, Some, None, refl, sym, ap, ◌∙◌, subst, arith, if◌then◌else◌}
+use Rattle.std.proofs.Common.{◌≡◌, ℕ, ◌+◌, ◌-◌, ◌*◌, ◌/◌, ◌%◌, ◌<◌, ◌≤◌, ◌^◌, Bool, true, false, cond, eqb, ◌||◌, nat_le, List, [], ◌∷◌, ◌++◌, length, take_while, get_or, Some, None, refl, sym, ap, ◌∙◌, subst, arith, if◌then◌else◌}
 use Rattle.std.specs.Prelude.{decimal}
-use Rattle.std.specs.List.{fold}
 use Rattle.std.proofs.lemmas.Bool.{eqb-true, le-leb}
 use Rattle.std.proofs.lemmas.Bool.Decides.{nat_tests}
 use Rattle.std.proofs.lemmas.Fmt.{decimal_by_steps, decimal_digit, decimal_nonempty, first_decimal}
 use Rattle.std.proofs.lemmas.List.Sums.{take_while-cons, fold-append}
 use Rattle.ms_text.specs.declared.token.TokenKind.TheVariants.{Number}
-use Rattle.ms_text.specs.Tokens.{is_digit, is_lower, number_of, greatest_number, number_token, number_within, first_token, begins_with}
+use Rattle.ms_text.specs.Tokens.{is_digit, is_lower, number_of, greatest_number, number_within, first_token, begins_with}
 use Rattle.ms_grammar.specs.Words.{number}
 use Rattle.ms_ast.specs.Ink.{word_text}
 use Rattle.ms_ast.proofs.Apart.{IsToken, Free}
-use Rattle.ms_ast.proofs.Fronts.{front_by, front_is, digit_is_word}
+use Rattle.ms_ast.proofs.Fronts.{front_by, digit_is_word}
 use Rattle.ms_ast.proofs.NameTokens.{part_of_text}
 
 abbrev AllDigit : List ℕ → Type 0
@@ -85,8 +84,8 @@ pub number_token_of : (n : ℕ) (tail : List ℕ) → n ≤ greatest_number → 
 number_token_of n tail small f =
     let fits : n < 2 ^ 64 = omega arith in
     number_token_by (decimal n) tail n refl (numeral n fits)
-        (number_first (decimal n) tail n (numeral n fits) small (decimal_nonempty n fits) (λ e. leading n fits e (eqb n 0) refl) f (eqb (get_or (decimal n) 0 0) 48) refl)
-        (decimal_nonempty n fits)
+    (number_first (decimal n) tail n (numeral n fits) small (decimal_nonempty n fits) (λ e. leading n fits e (eqb n 0) refl) f (eqb (get_or (decimal n) 0 0) 48) refl)
+    (decimal_nonempty n fits)
 
 digit_no_equal : (d : ℕ) → is_digit d ≡ true → eqb d 61 ≡ false
 digit_no_equal d h = grind (arith, nat_tests)

@@ -1,10 +1,9 @@
 -- Parts of statements as they are printed, and lists of them.
-use Rattle.std.proofs.Common.{◌≡◌, List, [], ◌∷◌, ◌++◌, map, Option, Some, None, refl, sym, ap, ◌∙◌, append-nil}
+use Rattle.std.proofs.Common.{◌≡◌, List, [], ◌∷◌, ◌++◌, map, Option, Some, refl, sym, ap, ◌∙◌, append-nil}
 use Rattle.std.specs.Option.{IfSome}
 use Rattle.ms_text.specs.declared.token.TokenKind.{TokenKind}
 use Rattle.ms_grammar.specs.declared.part.Counted.{Counted}
 use Rattle.ms_grammar.specs.Words.{Word, sign, separated}
-use Rattle.ms_grammar.specs.Terms.{both}
 use Rattle.ms_grammar.specs.Statements.{alone, beside, join, row_of}
 use Rattle.ms_ast.specs.Ink.{Ink, ink_words, each_after, side_by_side}
 use Rattle.ms_ast.specs.Law.{HaveNames}
@@ -21,7 +20,7 @@ separated_words between kind e (ink ∷ []) = ap ink_words (append-nil ink)
 separated_words between kind e (ink ∷ next ∷ more) =
     ink_words_append ink (each_after between (next ∷ more))
     ∙ ap (λ ws. ink_words ink ++ ws) (ink_words_append between (next ++ each_after between more)
-        ∙ (λ i. e i ++ separated_words between kind e (next ∷ more) i))
+    ∙ (λ i. e i ++ separated_words between kind e (next ∷ more) i))
 
 module _ (D V : Type 0) (words : D → List Word) (spelled : D → Option (Counted V)) (ink : V → List Ink) where
   -- What is printed of the part spells it, and may stand before whatever no name goes on in.

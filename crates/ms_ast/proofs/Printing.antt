@@ -1,5 +1,5 @@
 -- What is printed of each form of a term.
-use Rattle.std.proofs.Common.{◌≡◌, ℕ, List, [], ◌∷◌, map, sym, ap, ◌∙◌, ℤ}
+use Rattle.std.proofs.Common.{◌≡◌, ℕ, List, map, sym, ap, ◌∙◌, ℤ}
 use Rattle.ms_tree.specs.declared.op.Op.{Op}
 use Rattle.ms_grammar.specs.declared.term.TextTerm.{TextTerm, Number, Text, Function, Pool, Interval, Neg, Abs, Binary}
 use Rattle.ms_grammar.specs.declared.term.TextTerm.TheVariants.{rolls-Number, rolls-Text, rolls-Function, rolls-Pool, rolls-Interval, rolls-Neg, rolls-Abs, rolls-Binary}

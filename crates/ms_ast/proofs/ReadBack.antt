@@ -1,9 +1,9 @@
 -- A printed statement is read back.
-use Rattle.std.proofs.Common.{◌≡◌, ℕ, List, [], Option, Some, None, refl, sym, ap, ◌∙◌, subst}
+use Rattle.std.proofs.Common.{[], refl, sym, ◌∙◌, subst}
 use Rattle.std.specs.Option.{IfSome}
 use Rattle.ms_grammar.specs.declared.statement.Form.{Form}
 use Rattle.ms_grammar.specs.declared.part.Counted.{Counted}
-use Rattle.ms_grammar.specs.Statements.{HasFewCopies, sentence_words, sentence_spelled}
+use Rattle.ms_grammar.specs.Statements.{HasFewCopies, sentence_words}
 use Rattle.ms_ast.specs.Statements.{statement_ink, statement_text}
 use Rattle.ms_ast.specs.Law.{HaveNames, IsInGrammar, IsReadAs}
 use Rattle.ms_ast.proofs.Bytes.{IsRead, read_sentence}

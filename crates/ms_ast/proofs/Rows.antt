@@ -1,5 +1,5 @@
 -- Lists of terms as they are printed.
-use Rattle.std.proofs.Common.{◌≡◌, ℕ, suc, max, ◌*◌, ◌+◌, nat_le, Bool, true, false, List, [], ◌∷◌, ◌++◌, map, Option, Some, None, refl, sym, ap, ◌∙◌, subst, arith, append_assoc, append-nil}
+use Rattle.std.proofs.Common.{◌≡◌, ℕ, suc, ◌*◌, ◌+◌, false, List, [], ◌∷◌, ◌++◌, map, Option, Some, None, refl, sym, ap, ◌∙◌, subst, arith, append_assoc, append-nil}
 use Rattle.std.specs.Option.{IfSome, option_map, option_and_then}
 use Rattle.std.proofs.lemmas.List.{map-append}
 use Rattle.ms_text.specs.declared.token.TokenKind.{TokenKind}
@@ -13,15 +13,15 @@ use Rattle.ms_grammar.specs.Terms as g
 use Rattle.ms_grammar.specs.Terms.{counted, leaf, named, tuple_of, only_list, with_term, with_list, with_alternative, no_terms, no_alternative, grouped, pooled}
 use Rattle.ms_ast.specs.declared.line.Line.TheVariants.{Interval, Primary}
 use Rattle.ms_ast.specs.Ink.{Ink, word, ink_words, mark, in_parens, each_after, side_by_side, comma, semicolon}
-use Rattle.ms_ast.specs.Terms.{Printed, printed, on_line, parenthesis, list_ink, lists_ink, tuple_inside, are_no_arguments, alternatives_ink}
+use Rattle.ms_ast.specs.Terms.{printed, on_line, parenthesis, list_ink, lists_ink, tuple_inside, are_no_arguments, alternatives_ink}
 use Rattle.ms_ast.specs.Law.{IsName}
 use Rattle.ms_ast.proofs.Inks.{ink_words_append}
 use Rattle.ms_ast.proofs.TermTexts.{no_arguments_map, named_with_arguments}
 use Rattle.ms_ast.proofs.Printing.{function_printed, pool_printed}
-use Rattle.ms_ast.proofs.Apart.{Joins, AllJoin, AllJoin-append, side_joins, joins_before, behind_sign, sign_starts, nothing_joins}
+use Rattle.ms_ast.proofs.Apart.{Joins, AllJoin, AllJoin-append, side_joins, sign_starts, nothing_joins}
 use Rattle.ms_ast.proofs.Signs.{comma_sign, left_paren_sign, comma_between, semicolon_between, parens_join}
 use Rattle.ms_ast.proofs.Operations.{name_joins, joins_between}
-use Rattle.ms_ast.proofs.Lines.{Spelled, OnLine, Within, ShownAs, IsShown, Few, counted_few, as_whole, alone_in_row, alone_as_alternative, in_parens_words, plain_shown, parens_shown, fitting_shown, shown_by}
+use Rattle.ms_ast.proofs.Lines.{Spelled, OnLine, IsShown, Few, counted_few, as_whole, alone_in_row, alone_as_alternative, in_parens_words, plain_shown, parens_shown, fitting_shown, shown_by}
 
 -- one more side by side
 each_push : (b : List Ink) (inks : List (List Ink)) (x : List Ink) → each_after b (inks ++ x ∷ []) ≡ each_after b inks ++ (b ++ x)
@@ -272,21 +272,21 @@ function_shown (b ∷ bs) n rows h =
     let ink : List Ink = word (name (b ∷ bs)) ∷ in_parens inside in
     let w = h.shown.written in
     fitting_shown r (on_line Primary ink) (named_printed b bs rows.lists h.some) (λ e.
-        plain_shown Primary ink r
-            (record {
-              derivation = g.function (b ∷ bs) w.derivation;
-              words_are = ap (λ ws. name (b ∷ bs) ∷ sign LeftParen ∷ (ws ++ sign RightParen ∷ [])) w.words_are ∙ sym (ap (λ ws. name (b ∷ bs) ∷ ws) (in_parens_words inside));
-              spells = ap (option_and_then (named (b ∷ bs))) w.spells ∙ e;
-            })
-            h.shown.few
-            (name_joins (b ∷ bs) n (in_parens inside) (sign_starts (sign LeftParen) left_paren_sign (inside ++ mark RightParen ∷ []))
-                (parens_join inside (side_joins semicolon semicolon_between (list_inks rows.lists) h.shown.all))))
+    plain_shown Primary ink r
+    (record {
+      derivation = g.function (b ∷ bs) w.derivation;
+      words_are = ap (λ ws. name (b ∷ bs) ∷ sign LeftParen ∷ (ws ++ sign RightParen ∷ [])) w.words_are ∙ sym (ap (λ ws. name (b ∷ bs) ∷ ws) (in_parens_words inside));
+      spells = ap (option_and_then (named (b ∷ bs))) w.spells ∙ e;
+    })
+    h.shown.few
+    (name_joins (b ∷ bs) n (in_parens inside) (sign_starts (sign LeftParen) left_paren_sign (inside ++ mark RightParen ∷ []))
+    (parens_join inside (side_joins semicolon semicolon_between (list_inks rows.lists) h.shown.all))))
 
 -- tuples
 pub empty_tuple_shown : IsShown (leaf (Function [] ([] ∷ [])))
 empty_tuple_shown =
     shown_by (leaf (Function [] ([] ∷ []))) (parenthesis []) (function_printed [] ([] ∷ []))
-        (parens_shown [] (leaf (Function [] ([] ∷ []))) (record { derivation = g.empty_tuple; words_are = refl; spells = refl }) (omega arith) nothing_joins)
+    (parens_shown [] (leaf (Function [] ([] ∷ []))) (record { derivation = g.empty_tuple; words_are = refl; spells = refl }) (omega arith) nothing_joins)
 
 tuple_of_two : (ts : List TextTerm) → Two TextTerm ts → tuple_inside (map printed ts) ≡ list_ink (map printed ts)
 tuple_of_two ts h = subst (λ us. tuple_inside (map printed us) ≡ list_ink (map printed us)) (sym h.are) refl
@@ -304,13 +304,13 @@ many_tuple_shown row h =
     let both_are : Two TextTerm row.terms = record { first = h.first; second = h.second; more = h.more; are = h.are } in
     let w = h.shown.written in
     fitting_shown r (parenthesis inside) (function_printed [] (row.terms ∷ []) ∙ ap parenthesis (tuple_of_two row.terms both_are)) (λ e.
-        parens_shown inside r
-            (record {
-              derivation = g.tuple w.derivation;
-              words_are = w.words_are;
-              spells = ap (option_and_then (λ r. grouped r.terms r)) w.spells ∙ grouped_two row row.terms both_are ∙ e;
-            })
-            h.shown.few (side_joins comma comma_between (term_inks row.terms) h.shown.all))
+    parens_shown inside r
+    (record {
+      derivation = g.tuple w.derivation;
+      words_are = w.words_are;
+      spells = ap (option_and_then (λ r. grouped r.terms r)) w.spells ∙ grouped_two row row.terms both_are ∙ e;
+    })
+    h.shown.few (side_joins comma comma_between (term_inks row.terms) h.shown.all))
 
 -- terms without a last comma
 pub many_grouped_shown : (row : Row) → TermsMany row → IfSome (grouped row.terms row) IsShown
@@ -329,14 +329,14 @@ comma_tuple_shown p s =
     let inside : List Ink = (printed p.term).ink ++ comma in
     let whole : OnLine Interval (ink_words (printed p.term).ink) p = as_whole (printed p.term).line (ink_words (printed p.term).ink) p s.written in
     fitting_shown r (parenthesis inside) (function_printed [] ((p.term ∷ []) ∷ [])) (λ e.
-        parens_shown inside r
-            (record {
-              derivation = g.tuple_comma (g.one_term whole.derivation);
-              words_are = ap (λ ws. ws ++ sign Comma ∷ []) whole.words_are ∙ sym (ink_words_append (printed p.term).ink comma);
-              spells = ap (λ o. option_and_then tuple_of (option_map (with_term no_terms) o)) whole.spells ∙ e;
-            })
-            (counted_few (1 * p.choices))
-            (joins_between (printed p.term).ink (sign Comma) [] comma_sign s.joins nothing_joins))
+    parens_shown inside r
+    (record {
+      derivation = g.tuple_comma (g.one_term whole.derivation);
+      words_are = ap (λ ws. ws ++ sign Comma ∷ []) whole.words_are ∙ sym (ink_words_append (printed p.term).ink comma);
+      spells = ap (λ o. option_and_then tuple_of (option_map (with_term no_terms) o)) whole.spells ∙ e;
+    })
+    (counted_few (1 * p.choices))
+    (joins_between (printed p.term).ink (sign Comma) [] comma_sign s.joins nothing_joins))
 
 -- parentheses
 pub one_pooled_shown : (p : Part) → IsShown p → IfSome (pooled (with_alternative no_alternative p).terms (with_alternative no_alternative p)) IsShown
@@ -348,12 +348,12 @@ pool_shown row h =
     let inside : List Ink = alternatives_ink (map printed row.terms) in
     let w = h.shown.written in
     subst (λ o. IfSome o IsShown) (sym (pooled_two row row.terms h.two_are))
-        (fitting_shown r (on_line Primary (in_parens inside)) (pool_printed row.terms) (λ e.
-            plain_shown Primary (in_parens inside) r
-                (record {
-                  derivation = g.parenthesis w.derivation;
-                  words_are = ap (λ ws. sign LeftParen ∷ (ws ++ sign RightParen ∷ [])) w.words_are ∙ sym (in_parens_words inside);
-                  spells = ap (option_and_then (λ r. pooled r.terms r)) w.spells ∙ pooled_two row row.terms h.two_are ∙ e;
-                })
-                h.shown.few
-                (parens_join inside (side_joins semicolon semicolon_between (insides row.terms) h.shown.all))))
+    (fitting_shown r (on_line Primary (in_parens inside)) (pool_printed row.terms) (λ e.
+    plain_shown Primary (in_parens inside) r
+    (record {
+      derivation = g.parenthesis w.derivation;
+      words_are = ap (λ ws. sign LeftParen ∷ (ws ++ sign RightParen ∷ [])) w.words_are ∙ sym (in_parens_words inside);
+      spells = ap (option_and_then (λ r. pooled r.terms r)) w.spells ∙ pooled_two row row.terms h.two_are ∙ e;
+    })
+    h.shown.few
+    (parens_join inside (side_joins semicolon semicolon_between (insides row.terms) h.shown.all))))

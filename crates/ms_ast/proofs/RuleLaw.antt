@@ -1,5 +1,5 @@
 -- What is printed of bodies and rules spells them.
-use Rattle.std.proofs.Common.{◌≡◌, ℕ, Bool, true, false, List, [], ◌∷◌, ◌++◌, map, Option, Some, None, refl, sym, ap, ◌∙◌, subst, append-nil}
+use Rattle.std.proofs.Common.{◌≡◌, Bool, true, false, List, [], ◌∷◌, ◌++◌, map, Option, Some, None, refl, sym, ap, ◌∙◌, subst, append-nil}
 use Rattle.std.specs.Option.{IfSome, option_map}
 use Rattle.ms_text.specs.declared.token.TokenKind.TheVariants.{Not, Comma, If}
 use Rattle.ms_grammar.specs.declared.term.TextTerm.{TextTerm}
@@ -16,7 +16,7 @@ use Rattle.ms_grammar.specs.declared.part.Counted.{Counted}
 use Rattle.ms_grammar.specs.Words.{Word, sign, separated}
 use Rattle.ms_grammar.specs.Statements as st
 use Rattle.ms_grammar.specs.Statements.{BodyPart, body_part_words, body_part_spelled, Body, body_words, body_spelled, more_words, separator, HeadPart, head_words, Tail, tail_words, tail_spelled, rule_spelled, atom_words, atom_spelled, choice_words, choice_spelled, aggregate_spelled, literal_spelled, alone, beside, join, row_of, with_value}
-use Rattle.ms_ast.specs.Ink.{Ink, blank, ink_words, mark, side_by_side, comma_blank, apart}
+use Rattle.ms_ast.specs.Ink.{blank, ink_words, mark, comma_blank, apart}
 use Rattle.ms_ast.specs.Terms.{term_ink}
 use Rattle.ms_ast.specs.Statements.{set_ink, agg_ink, part_ink, body_ink, behind_head, form_ink}
 use Rattle.ms_ast.specs.Law.{HaveNames}
@@ -121,7 +121,7 @@ body_is : (b : Body) → HaveNames (body_words b) → IfSome (body_spelled b) Bo
 body_is b n =
     let ns = names_split (body_part_words b.first) (more_words b.more) n in
     both_some (λ c cs. Some (beside cons_parts c cs)) PartIs PartsAre BodyIs body_printed (body_part_spelled b.first) (row_of body_part_spelled (map (λ part. part.1) b.more))
-        (part_is b.first ns.0) (row_printed BodyPart BodyLit body_part_words body_part_spelled part_ink part_is (map (λ part. part.1) b.more) (names_more b.more ns.1))
+    (part_is b.first ns.0) (row_printed BodyPart BodyLit body_part_words body_part_spelled part_ink part_is (map (λ part. part.1) b.more) (names_more b.more ns.1))
 
 -- what follows a head
 record TailIs (c : Counted (List BodyLit)) : Type 0 where

@@ -1,14 +1,14 @@
 -- What is printed of statements spells them.
-use Rattle.std.proofs.Common.{◌≡◌, ◌≢◌, ℕ, suc, ◌≤◌, nat_le, Bool, true, false, List, [], ◌∷◌, ◌++◌, map, Option, Some, None, refl, sym, ap, ◌∙◌, subst, arith, if◌then◌else◌}
+use Rattle.std.proofs.Common.{◌≡◌, ◌≢◌, ℕ, ◌≤◌, nat_le, false, List, [], ◌∷◌, ◌++◌, map, Option, Some, None, refl, sym, ap, ◌∙◌, subst, arith, if◌then◌else◌}
 use Rattle.std.specs.Prelude.{codes}
 use Rattle.std.specs.List.{AllPairs}
 use Rattle.std.specs.Option.{IfSome, option_map}
 use Rattle.std.proofs.lemmas.Bool.{leb-true}
-use Rattle.ms_text.specs.declared.token.TokenKind.TheVariants.{Program, External, Const, Show, Include, Dot, Comma, Equal, EqualEqual, Slash, Less, Greater, LeftParen, RightParen}
-use Rattle.ms_text.specs.Tokens.{begins_with, first_token}
+use Rattle.ms_text.specs.declared.token.TokenKind.TheVariants.{Program, External, Const, Show, Dot, Comma, Equal, EqualEqual, Slash, Less, Greater, LeftParen, RightParen}
+use Rattle.ms_text.specs.Tokens.{begins_with}
 use Rattle.ms_grammar.specs.declared.term.TextTerm.{TextTerm}
 use Rattle.ms_grammar.specs.declared.statement.Form.{Form}
-use Rattle.ms_grammar.specs.declared.statement.Form.TheVariants.{Rule, Program as ProgramForm, External as ExternalForm, Const as ConstForm, Show as ShowForm, ShowNone, IncludeIncmode}
+use Rattle.ms_grammar.specs.declared.statement.Form.TheVariants.{Program as ProgramForm, External as ExternalForm, Const as ConstForm, Show as ShowForm, ShowNone, IncludeIncmode}
 use Rattle.ms_grammar.specs.declared.part.Counted.{Counted}
 use Rattle.ms_grammar.specs.declared.part.ValuePart.{ValuePart}
 use Rattle.ms_grammar.specs.Words.{Word, name, number, sign, separated}
@@ -16,13 +16,13 @@ use Rattle.ms_grammar.specs.Terms.{greatest_numeral}
 use Rattle.ms_grammar.specs.Values.{value_words, value_part}
 use Rattle.ms_grammar.specs.Statements as st
 use Rattle.ms_grammar.specs.Statements.{Sentence, sentence_words, sentence_spelled, Parameters, parameters_words, parameter_names, head_words, tail_words, rule_spelled, atom_words, atom_spelled, alone, with_value}
-use Rattle.ms_ast.specs.Ink.{Ink, blank, word, ink_words, ink_text, mark, in_parens, side_by_side, comma}
+use Rattle.ms_ast.specs.Ink.{Ink, word, ink_words, ink_text, mark, side_by_side, comma}
 use Rattle.ms_ast.specs.Terms.{term_ink}
 use Rattle.ms_ast.specs.Values.{value_ink}
 use Rattle.ms_ast.specs.Statements.{form_ink, params_ink, statement_ink}
 use Rattle.ms_ast.specs.Law.{IsName, HaveNames}
 use Rattle.ms_ast.proofs.Inks.{ink_words_append}
-use Rattle.ms_ast.proofs.Names.{names_split, names_each}
+use Rattle.ms_ast.proofs.Names.{names_split}
 use Rattle.ms_ast.proofs.Somes.{map_some, kept}
 use Rattle.ms_ast.proofs.Apart.{IsToken, IsSentence, dot, gap, token, Joins, Starts, AllJoin, behind_sign, behind_word_blank, sign_starts, nothing_joins, nothing_starts, side_joins}
 use Rattle.ms_ast.proofs.Signs.{program_blank, external_blank, const_blank, show_blank, show_dot, include_blank, less_name, greater_dot, slash_sign, left_paren_sign, comma_between, parens_join}
@@ -171,7 +171,7 @@ show_sentence p n is_name = kept SentenceIs (nat_le n greatest_numeral) (alone (
       spells = e;
       sentence = before_dot (form_ink (ShowForm p n)) (behind_word_blank (sign Show) show_blank (word (name p) ∷ mark Slash ∷ word (number n) ∷ [])
           (name_joins p is_name (mark Slash ∷ word (number n) ∷ []) (sign_starts (sign Slash) slash_sign (word (number n) ∷ []))
-              (behind_sign (sign Slash) slash_sign (word (number n) ∷ []) (number_joins n (omega arith) [] nothing_starts nothing_joins))));
+          (behind_sign (sign Slash) slash_sign (word (number n) ∷ []) (number_joins n (omega arith) [] nothing_starts nothing_joins))));
     })
 
 show_none_sentence : SentenceIs (alone ShowNone)

@@ -1,7 +1,6 @@
 -- What is printed of guards, sets and aggregates spells them.
 use Rattle.std.proofs.Common.{◌≡◌, ℕ, List, [], ◌∷◌, ◌++◌, map, Option, Some, None, refl, sym, ap, ◌∙◌, append_assoc}
 use Rattle.std.specs.Option.{IfSome, option_map, option_and_then}
-use Rattle.ms_text.specs.declared.token.TokenKind.{TokenKind}
 use Rattle.ms_text.specs.declared.token.TokenKind.TheVariants.{Comma, Semicolon, LeftBrace, RightBrace}
 use Rattle.ms_grammar.specs.declared.term.TextTerm.{TextTerm}
 use Rattle.ms_grammar.specs.declared.statement.Cmp.{Cmp}
@@ -19,7 +18,7 @@ use Rattle.ms_grammar.specs.Words.{Word, sign, separated}
 use Rattle.ms_grammar.specs.Terms as g
 use Rattle.ms_grammar.specs.Statements as st
 use Rattle.ms_grammar.specs.Statements.{Guard, left_words, right_words, guard_spelled, SetPart, set_part_words, set_part_spelled, TuplePart, tuple_part_words, tuple_part_spelled, Choice, choice_words, choice_spelled, set_from, Aggregate, aggregate_words, aggregate_spelled, aggregate_from, function_kind, atom_words, atom_spelled, conditions_words, conditions_spelled, term_spelled, cmp_of, alone, as_element, beside, join, row_of, with_value}
-use Rattle.ms_ast.specs.Ink.{Ink, blank, word, ink_words, ink_text, mark, side_by_side, comma, semicolon_blank, apart}
+use Rattle.ms_ast.specs.Ink.{Ink, blank, ink_words, ink_text, mark, side_by_side, comma, semicolon_blank, apart}
 use Rattle.ms_ast.specs.Terms.{term_ink}
 use Rattle.ms_ast.specs.Statements.{cmp_kind, conditions_ink, set_element_ink, agg_element_ink, left_ink, right_ink, in_braces, set_ink, agg_ink}
 use Rattle.ms_ast.specs.Law.{HaveNames}
@@ -153,7 +152,7 @@ tuple_part_is e n =
     let ns = names_split (separated (sign Comma) (map g.term_words (e.first ∷ e.more))) (conditions_words e.conditions) n in
     let ms = names_each Comma (map g.term_words (e.first ∷ e.more)) ns.0 in
     tuple_part_some (term_spelled e.first) (row_of term_spelled e.more) (conditions_spelled e.conditions)
-        (term_is e.first ms.0) (row_printed g.Term TextTerm g.term_words term_spelled term_ink term_is e.more ms.1) (conditions_are e.conditions ns.1)
+    (term_is e.first ms.0) (row_printed g.Term TextTerm g.term_words term_spelled term_ink term_is e.more ms.1) (conditions_are e.conditions ns.1)
 
 -- what stands in braces, between its guards
 braces_words : (left before inside right : List Word) (closing : Word) → (left ++ (before ++ inside)) ++ closing ∷ right ≡ left ++ (before ++ ((inside ++ closing ∷ []) ++ right))
@@ -194,7 +193,7 @@ choice_printed l es r hl hes hr =
       joins = joins_before (left_ink l.value) (in_braces inks ++ right_ink r.value) hl.left_joins
           (sign_starts (sign LeftBrace) left_brace_sign ((inside ++ mark RightBrace ∷ []) ++ right_ink r.value))
           (behind_sign (sign LeftBrace) left_brace_sign ((inside ++ mark RightBrace ∷ []) ++ right_ink r.value)
-              (inside_joins inside (right_ink r.value) (side_joins semicolon_blank semicolon_blank_between inks hes.all) hr.right_starts hr.right_joins));
+          (inside_joins inside (right_ink r.value) (side_joins semicolon_blank semicolon_blank_between inks hes.all) hr.right_starts hr.right_joins));
     }
 
 choice_some : (a : Option (Counted (Option TextGuard))) (b : Option (Counted (List SetElement))) (c : Option (Counted (Option TextGuard))) → IfSome a GuardIs → IfSome b SetPartsAre → IfSome c GuardIs → IfSome (join set_from a (join set_pair b c)) ChoiceIs
@@ -212,9 +211,9 @@ choice_is s n =
     let ns = names_split (left_words s.left ++ sign LeftBrace ∷ separated (sign Semicolon) (map set_part_words s.elements)) (sign RightBrace ∷ right_words s.right) n in
     let ms = names_split (left_words s.left) (sign LeftBrace ∷ separated (sign Semicolon) (map set_part_words s.elements)) ns.0 in
     choice_some (guard_spelled s.left) (row_of set_part_spelled s.elements) (guard_spelled s.right)
-        (guard_is s.left (left_names s.left ms.0))
-        (row_printed SetPart SetElement set_part_words set_part_spelled set_element_ink set_part_is s.elements (names_each Semicolon (map set_part_words s.elements) ms.1))
-        (guard_is s.right (right_names s.right ns.1))
+    (guard_is s.left (left_names s.left ms.0))
+    (row_printed SetPart SetElement set_part_words set_part_spelled set_element_ink set_part_is s.elements (names_each Semicolon (map set_part_words s.elements) ms.1))
+    (guard_is s.right (right_names s.right ns.1))
 
 -- aggregates
 abbrev pub AggregateIs : Counted TextAgg → Type 0
@@ -272,6 +271,6 @@ aggregate_is a n =
     let ns = names_split (left_words a.left ++ sign (function_kind a.function_is) ∷ sign LeftBrace ∷ inside) (sign RightBrace ∷ right_words a.right) n in
     let ms = names_split (left_words a.left) (sign (function_kind a.function_is) ∷ sign LeftBrace ∷ inside) ns.0 in
     aggregate_some a.function_is (guard_spelled a.left) (row_of tuple_part_spelled a.elements) (guard_spelled a.right)
-        (guard_is a.left (left_names a.left ms.0))
-        (row_printed TuplePart AggElement tuple_part_words tuple_part_spelled agg_element_ink tuple_part_is a.elements (names_each Semicolon (map tuple_part_words a.elements) ms.1))
-        (guard_is a.right (right_names a.right ns.1))
+    (guard_is a.left (left_names a.left ms.0))
+    (row_printed TuplePart AggElement tuple_part_words tuple_part_spelled agg_element_ink tuple_part_is a.elements (names_each Semicolon (map tuple_part_words a.elements) ms.1))
+    (guard_is a.right (right_names a.right ns.1))

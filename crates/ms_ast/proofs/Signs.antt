@@ -6,10 +6,10 @@ use Rattle.ms_tree.specs.declared.op.Op.TheVariants.{Add, Sub, Mul, Div, Rem}
 use Rattle.ms_grammar.specs.declared.statement.Cmp.{Cmp}
 use Rattle.ms_grammar.specs.declared.statement.Cmp.TheVariants.{Eq, Ne, Lt, Le, Gt, Ge}
 use Rattle.ms_grammar.specs.Words.{sign}
-use Rattle.ms_ast.specs.Ink.{Ink, blank, word, mark, comma, semicolon, comma_blank, semicolon_blank, apart, in_parens}
+use Rattle.ms_ast.specs.Ink.{Ink, blank, mark, comma, semicolon, comma_blank, semicolon_blank, in_parens}
 use Rattle.ms_ast.specs.Terms.{op_kind}
 use Rattle.ms_ast.specs.Statements.{cmp_kind}
-use Rattle.ms_ast.proofs.Apart.{IsToken, IsSign, IsBetween, Joins, behind_sign, sign_starts, behind_blank, behind_word_blank, joins_before, nothing_joins}
+use Rattle.ms_ast.proofs.Apart.{IsToken, IsSign, IsBetween, Joins, behind_sign, sign_starts, behind_blank, joins_before, nothing_joins}
 
 pub dot_dot_sign : IsSign (sign DotDot)
 dot_dot_sign = record { is_token = λ tail. record { head = 46; rest = 46 ∷ []; text = refl; kind = DotDot; first = refl; inside = λ t ps. refl; reads = λ front line. refl }; free = λ tail. refl }

@@ -1,5 +1,5 @@
 -- How large terms are: what falls at each call of the printer.
-use Rattle.std.proofs.Common.{◌≡◌, ℕ, suc, zero, ap, ◌+◌, ◌<◌, ◌≤◌, List, [], ◌∷◌, map, length, get_or, arith}
+use Rattle.std.proofs.Common.{◌≡◌, ℕ, suc, zero, ap, ◌+◌, ◌<◌, List, [], ◌∷◌, map, length, get_or, arith}
 use Rattle.ms_grammar.specs.declared.term.TextTerm.{TextTerm}
 use Rattle.ms_grammar.specs.declared.term.TextTerm.TheOpen.{TextTerm-F}
 use Rattle.ms_grammar.specs.declared.term.TextTerm.TheFolds.{fold-TextTerm}

@@ -1,5 +1,5 @@
 -- What holds of what is found, where something is found.
-use Rattle.std.proofs.Common.{◌≡◌, Bool, true, false, Option, Some, None, refl, ap, if◌then◌else◌}
+use Rattle.std.proofs.Common.{◌≡◌, Bool, true, false, Option, Some, None, refl, if◌then◌else◌}
 use Rattle.std.specs.Option.{IfSome, option_map, option_and_then}
 use Rattle.ms_grammar.specs.Terms.{both}
 

@@ -1,5 +1,5 @@
 -- A string is a token of its own, whatever follows.
-use Rattle.std.proofs.Common.{◌≡◌, ℕ, suc, ◌+◌, ◌-◌, Bool, true, false, eqb, List, [], ◌∷◌, ◌++◌, length, Option, Some, None, refl, sym, ap, ◌∙◌, subst, arith, append_assoc, append-nil, length-append, if◌then◌else◌}
+use Rattle.std.proofs.Common.{◌≡◌, ℕ, suc, ◌+◌, ◌-◌, Bool, true, false, eqb, List, [], ◌∷◌, ◌++◌, length, Option, Some, None, refl, sym, ap, ◌∙◌, subst, arith, append_assoc, length-append, if◌then◌else◌}
 use Rattle.std.specs.List.{slice_range}
 use Rattle.std.specs.Option.{option_map}
 use Rattle.std.proofs.lemmas.Bool.{eqb-true}
@@ -9,7 +9,7 @@ use Rattle.ms_lex.proofs.Strings.{text_len-plain}
 use Rattle.ms_tree.specs.Text.{escaped, escaped_byte}
 use Rattle.ms_grammar.specs.Words.{quoted, unescaped}
 use Rattle.ms_ast.specs.Ink.{word_text}
-use Rattle.ms_ast.proofs.Apart.{IsToken, IsSign, Free}
+use Rattle.ms_ast.proofs.Apart.{IsSign}
 use Rattle.ms_ast.proofs.NameTokens.{part_of_text}
 
 abbrev escape_by : Bool → Bool → Bool → ℕ → List ℕ

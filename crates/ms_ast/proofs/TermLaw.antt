@@ -1,7 +1,7 @@
 -- What is printed of a spelled term spells it.
-use Rattle.std.proofs.Common.{◌≡◌, List, [], ◌∷◌, ◌++◌, Option, Some, None}
+use Rattle.std.proofs.Common.{[], ◌∷◌, Option, Some, None}
 use Rattle.std.specs.Option.{IfSome, option_map, option_and_then}
-use Rattle.ms_text.specs.declared.token.TokenKind.TheVariants.{DotDot, Comma, Semicolon, LeftParen, RightParen, Plus, Minus, Star, Slash, Backslash, Bar}
+use Rattle.ms_text.specs.declared.token.TokenKind.TheVariants.{DotDot, Comma, Semicolon, RightParen, Plus, Minus, Star, Slash, Backslash, Bar}
 use Rattle.ms_tree.specs.declared.op.Op.TheVariants.{Add, Sub, Mul, Div, Rem}
 use Rattle.ms_grammar.specs.declared.term.TextTerm.{Interval, Neg, Abs, Binary}
 use Rattle.ms_grammar.specs.declared.part.Part.{Part}
@@ -76,7 +76,7 @@ mutual
       let ns = names_split (g.lists_words (g.or_list lists args)) (sign RightParen ∷ []) n.1 in
       let ms = names_split (g.lists_words lists) (sign Semicolon ∷ g.arguments_words args) ns.0 in
       then_some (g.named f) ListsMany IsShown (function_shown f n.0) (g.lists_rows (g.or_list lists args))
-          (both_some (λ rows row. Some (g.with_list rows row)) ListsShown ArgumentsShown ListsMany more_lists_shown (g.lists_rows lists) (g.arguments_row args) (lists_shown lists ms.0) (arguments_shown args ms.1))
+      (both_some (λ rows row. Some (g.with_list rows row)) ListsShown ArgumentsShown ListsMany more_lists_shown (g.lists_rows lists) (g.arguments_row args) (lists_shown lists ms.0) (arguments_shown args ms.1))
   primary_shown (g.parenthesis (g.one_tuple t)) n =
       let ns = names_split (g.tuple_words t) (sign RightParen ∷ []) n in
       one_pooled (g.tuple_part t) (tuple_shown t ns.0)
@@ -84,7 +84,7 @@ mutual
       let ns = names_split (g.tuples_words (g.or_tuple ts t)) (sign RightParen ∷ []) n in
       let ms = names_split (g.tuples_words ts) (sign Semicolon ∷ g.tuple_words t) ns.0 in
       then_some (λ row. g.pooled row.terms row) TuplesMany IsShown pool_shown (g.tuples_row (g.or_tuple ts t))
-          (both_some (λ row p. Some (g.with_alternative row p)) TuplesShown IsShown TuplesMany more_tuples_shown (g.tuples_row ts) (g.tuple_part t) (tuples_shown ts ms.0) (tuple_shown t ms.1))
+      (both_some (λ row p. Some (g.with_alternative row p)) TuplesShown IsShown TuplesMany more_tuples_shown (g.tuples_row ts) (g.tuple_part t) (tuples_shown ts ms.0) (tuple_shown t ms.1))
   primary_shown (g.absolute s) n =
       let ns = names_split (g.sum_words s) (sign Bar ∷ []) n in
       then_some (g.round Abs) IsShown IsShown abs_shown (g.sum_part s) (sum_shown s ns.0)

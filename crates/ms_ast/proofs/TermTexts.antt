@@ -3,8 +3,7 @@ use Rattle.std.proofs.Common.{◌≡◌, ℕ, zero, suc, eqb, ◌≤◌, ◌<◌
 use Rattle.std.proofs.lemmas.Simd.{map-map}
 use Rattle.ms_text.specs.declared.token.TokenKind.TheVariants.{DotDot, RightParen, Bar}
 use Rattle.ms_tree.specs.declared.op.Op.{Op}
-use Rattle.ms_tree.specs.declared.op.Op.TheVariants.{Add, Sub, Mul, Div, Rem}
-use Rattle.ms_grammar.specs.declared.term.TextTerm.{TextTerm, Function, Pool, Interval, Neg, Abs, Binary}
+use Rattle.ms_grammar.specs.declared.term.TextTerm.{TextTerm, Pool, Interval, Neg, Abs, Binary}
 use Rattle.ms_grammar.specs.Words.{name}
 use Rattle.ms_ast.specs.declared.line.Line.{Line}
 use Rattle.ms_ast.specs.declared.line.Line.TheVariants.{Sum, Unary}
@@ -99,7 +98,7 @@ one_tuple_text (us ∷ lists) [] some e one = absurd (omega arith)
 one_tuple_text (us ∷ lists) (t ∷ u ∷ ts) some e one = absurd (omega arith)
 one_tuple_text (us ∷ lists) (t ∷ []) some e one =
     subst (λ vs. ink_text (list_ink (map printed (t ∷ []))) ++ 44 ∷ [] ≡ ink_text (tuple_inside (map printed vs))) e
-        (ap (λ s. s ++ 44 ∷ []) (ap ink_text (append-nil (printed t).ink)) ∙ sym (ink_text_append (printed t).ink comma))
+    (ap (λ s. s ++ 44 ∷ []) (ap ink_text (append-nil (printed t).ink)) ∙ sym (ink_text_append (printed t).ink comma))
 
 -- lists of terms as their loops append them
 pub list_text : (ts : List TextTerm) → texts_after [] (44 ∷ []) (map (λ t. ink_text (printed t).ink) ts) ≡ ink_text (list_ink (map printed ts))

@@ -1,5 +1,5 @@
 -- What is printed of a spelled value spells it.
-use Rattle.std.proofs.Common.{◌≡◌, ℕ, zero, suc, ◌≤◌, ◌<◌, ◌^◌, ℤ, pos, neg_ℤ, max, nat_le, Bool, true, false, List, [], ◌∷◌, ◌++◌, map, Option, Some, None, refl, sym, ap, ◌∙◌, subst, arith, append_assoc, if◌then◌else◌}
+use Rattle.std.proofs.Common.{◌≡◌, ℕ, zero, suc, ◌≤◌, ℤ, pos, neg_ℤ, max, nat_le, false, List, [], ◌∷◌, ◌++◌, map, Option, Some, None, refl, sym, ap, ◌∙◌, subst, arith, append_assoc}
 use Rattle.std.specs.Prelude.{negsuc}
 use Rattle.std.specs.Option.{IfSome, option_map, option_and_then}
 use Rattle.std.proofs.lemmas.Bool.{leb-true}
@@ -12,7 +12,7 @@ use Rattle.ms_grammar.specs.declared.value.Value.TheOpen.{Value-F}
 use Rattle.ms_grammar.specs.declared.value.Value.TheFolds.{fold-roll-Value}
 use Rattle.ms_grammar.specs.declared.part.ValuePart.{ValuePart}
 use Rattle.ms_grammar.specs.declared.part.ValueRow.{ValueRow}
-use Rattle.ms_grammar.specs.Words.{Word, name, number, quoted, sign}
+use Rattle.ms_grammar.specs.Words.{name, number, quoted, sign}
 use Rattle.ms_grammar.specs.Terms.{most_height, greatest_numeral, both}
 use Rattle.ms_grammar.specs.Values.{Spelling, Spellings, numeral, negative, string, constant, no_arguments, function, empty_tuple, tuple, tuple_comma, one_value, and_value, value_words, values_words, value_part, values_row, value_leaf, value_named, value_grouped, no_values, with_value}
 use Rattle.ms_ast.specs.Ink.{Ink, word, ink_words, ink_text, mark, in_parens, side_by_side, comma}
@@ -150,15 +150,15 @@ function_shown (b ∷ bs) n row h =
     let inside : List Ink = side_by_side comma (map value_ink row.values) in
     let r : ValuePart = record { value = Function (b ∷ bs) row.values; height = suc row.height } in
     kept ValueShown (nat_le (suc row.height) most_height) r (λ e low.
-        by_ink r (word (name (b ∷ bs)) ∷ in_parens inside) (function_value (b ∷ bs) row.values ∙ applied_ink b bs row.values h.first h.more h.are) (record {
-          written = record {
-            derivation = function (b ∷ bs) h.written.derivation;
-            words_are = ap (λ ws. name (b ∷ bs) ∷ sign LeftParen ∷ (ws ++ sign RightParen ∷ [])) h.written.words_are ∙ sym (ap (λ ws. name (b ∷ bs) ∷ ws) (in_parens_words inside));
-            spells = ap (option_and_then (value_named (b ∷ bs))) h.written.spells ∙ e;
-          };
-          joins = name_joins (b ∷ bs) n (in_parens inside) (sign_starts (sign LeftParen) left_paren_sign (inside ++ mark RightParen ∷ [])) (parens_join inside (side_joins comma comma_between (map value_ink row.values) h.all));
-          no_equal = λ more. name_no_equal (b ∷ bs) (ink_text (in_parens inside ++ more)) n;
-        }))
+    by_ink r (word (name (b ∷ bs)) ∷ in_parens inside) (function_value (b ∷ bs) row.values ∙ applied_ink b bs row.values h.first h.more h.are) (record {
+      written = record {
+        derivation = function (b ∷ bs) h.written.derivation;
+        words_are = ap (λ ws. name (b ∷ bs) ∷ sign LeftParen ∷ (ws ++ sign RightParen ∷ [])) h.written.words_are ∙ sym (ap (λ ws. name (b ∷ bs) ∷ ws) (in_parens_words inside));
+        spells = ap (option_and_then (value_named (b ∷ bs))) h.written.spells ∙ e;
+      };
+      joins = name_joins (b ∷ bs) n (in_parens inside) (sign_starts (sign LeftParen) left_paren_sign (inside ++ mark RightParen ∷ [])) (parens_join inside (side_joins comma comma_between (map value_ink row.values) h.all));
+      no_equal = λ more. name_no_equal (b ∷ bs) (ink_text (in_parens inside ++ more)) n;
+    }))
 
 many_inside : (vs : List Value) → Two Value vs → tuple_inside (map value_ink vs) ≡ side_by_side comma (map value_ink vs)
 many_inside vs h = subst (λ us. tuple_inside (map value_ink us) ≡ side_by_side comma (map value_ink us)) (sym h.are) refl
@@ -172,15 +172,15 @@ many_tuple row h =
     let r : ValuePart = record { value = Function [] row.values; height = suc row.height } in
     let w = h.shown.written in
     kept ValueShown (nat_le (suc row.height) most_height) r (λ e low.
-        by_ink r (in_parens inside) (function_value [] row.values ∙ ap in_parens (many_inside row.values h.two_are)) (record {
-          written = record {
-            derivation = tuple w.derivation;
-            words_are = ap (λ ws. sign LeftParen ∷ (ws ++ sign RightParen ∷ [])) w.words_are ∙ sym (in_parens_words inside);
-            spells = ap (option_and_then (λ r. value_grouped r.values r)) w.spells ∙ many_grouped row row.values h.two_are ∙ e;
-          };
-          joins = parens_join inside (side_joins comma comma_between (map value_ink row.values) h.shown.all);
-          no_equal = λ more. refl;
-        }))
+    by_ink r (in_parens inside) (function_value [] row.values ∙ ap in_parens (many_inside row.values h.two_are)) (record {
+      written = record {
+        derivation = tuple w.derivation;
+        words_are = ap (λ ws. sign LeftParen ∷ (ws ++ sign RightParen ∷ [])) w.words_are ∙ sym (in_parens_words inside);
+        spells = ap (option_and_then (λ r. value_grouped r.values r)) w.spells ∙ many_grouped row row.values h.two_are ∙ e;
+      };
+      joins = parens_join inside (side_joins comma comma_between (map value_ink row.values) h.shown.all);
+      no_equal = λ more. refl;
+    }))
 
 many_group : (row : ValueRow) → ValuesMany row → IfSome (value_grouped row.values row) ValueShown
 many_group row h = subst (λ o. IfSome o ValueShown) (sym (many_grouped row row.values h.two_are)) (many_tuple row h)
@@ -191,18 +191,18 @@ one_comma p s =
     let inside : List Ink = value_ink p.value ++ comma in
     let r : ValuePart = record { value = Function [] (p.value ∷ []); height = suc row.height } in
     let regroup : sign LeftParen ∷ (ink_words (value_ink p.value) ++ sign Comma ∷ sign RightParen ∷ []) ≡ ink_words (in_parens inside) =
-        ap (λ ws. sign LeftParen ∷ ws) (sym (append_assoc (ink_words (value_ink p.value)) (sign Comma ∷ []) (sign RightParen ∷ [])) ∙ ap (λ ws. ws ++ sign RightParen ∷ []) (sym (ink_words_append (value_ink p.value) comma)))
-        ∙ sym (in_parens_words inside) in
+    ap (λ ws. sign LeftParen ∷ ws) (sym (append_assoc (ink_words (value_ink p.value)) (sign Comma ∷ []) (sign RightParen ∷ [])) ∙ ap (λ ws. ws ++ sign RightParen ∷ []) (sym (ink_words_append (value_ink p.value) comma)))
+    ∙ sym (in_parens_words inside) in
     kept ValueShown (nat_le (suc row.height) most_height) r (λ e low.
-        by_ink r (in_parens inside) (function_value [] (p.value ∷ [])) (record {
-          written = record {
-            derivation = tuple_comma (one_value s.written.derivation);
-            words_are = ap (λ ws. sign LeftParen ∷ (ws ++ sign Comma ∷ sign RightParen ∷ [])) s.written.words_are ∙ regroup;
-            spells = ap (λ o. option_and_then (value_named []) (option_map (with_value no_values) o)) s.written.spells ∙ e;
-          };
-          joins = parens_join inside (joins_between (value_ink p.value) (sign Comma) [] comma_sign s.joins nothing_joins);
-          no_equal = λ more. refl;
-        }))
+    by_ink r (in_parens inside) (function_value [] (p.value ∷ [])) (record {
+      written = record {
+        derivation = tuple_comma (one_value s.written.derivation);
+        words_are = ap (λ ws. sign LeftParen ∷ (ws ++ sign Comma ∷ sign RightParen ∷ [])) s.written.words_are ∙ regroup;
+        spells = ap (λ o. option_and_then (value_named []) (option_map (with_value no_values) o)) s.written.spells ∙ e;
+      };
+      joins = parens_join inside (joins_between (value_ink p.value) (sign Comma) [] comma_sign s.joins nothing_joins);
+      no_equal = λ more. refl;
+    }))
 
 same_value : (p : ValuePart) (h : ℕ) → h ≡ p.height → ◌≡◌ {A = ValuePart} (record { value = p.value; height = h }) p
 same_value p h e = λ i. record { value = p.value; height = e i }

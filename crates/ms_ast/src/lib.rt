@@ -15,7 +15,6 @@ mod value;
 mod word;
 
 use form::print_statement;
-
 pub use ms_base::memory::OutOfMemory;
 pub use ms_grammar::statement::{
     AggElement, AggElements, AggFn, BodyLit, BodyLits, Cmp, Form, Head, Names, SetElement,
@@ -26,11 +25,7 @@ pub use ms_grammar::value::{Value, Values};
 use std::alloc::Global;
 
 /// Appends a statement as a person would write it. What is printed is read back as this statement.
-pub fn print(
-    alloc: Global,
-    statement: &Statement,
-    into: &mut Vec<u8>,
-) -> Result<(), OutOfMemory>
+pub fn print(alloc: Global, statement: &Statement, into: &mut Vec<u8>) -> Result<(), OutOfMemory>
     requires { IsInGrammar statement.now.form }
     ensures printed { OnOk result (into.new.items ≡ into.old.items ++ statement_text statement.now.form) }
     ensures unchanged { OnErr result (into.new.items ≡ into.old.items) }

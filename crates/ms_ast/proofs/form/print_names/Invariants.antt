@@ -1,5 +1,5 @@
-use Rattle.std.proofs.Common.{◌≡◌, ◌++◌, [], ◌∷◌, map, drop, length, ◌+◌, ◌*◌}
-use Rattle.ms_ast.specs.Ink.{Ink, word, ink_text, side_by_side, comma, comma_blank, semicolon_blank}
+use Rattle.std.proofs.Common.{◌≡◌, ◌++◌, [], ◌∷◌, map, drop}
+use Rattle.ms_ast.specs.Ink.{word, ink_text, side_by_side, comma}
 use Rattle.ms_grammar.specs.Words.{name}
 use Rattle.ms_ast.proofs.Inks.{texts_after}
 use Rattle.ms_ast.proofs.form.print_names.Given as goal

@@ -1,5 +1,5 @@
-use Rattle.std.proofs.Common.{◌≡◌, ◌++◌, [], ◌∷◌, map, drop, length, ◌+◌, ◌*◌}
-use Rattle.ms_ast.specs.Ink.{Ink, word, ink_text, side_by_side, comma, comma_blank, semicolon_blank}
+use Rattle.std.proofs.Common.{◌≡◌, ◌++◌, [], ◌∷◌, map, drop}
+use Rattle.ms_ast.specs.Ink.{ink_text, side_by_side, comma_blank}
 use Rattle.ms_ast.specs.Statements.{literal_ink}
 use Rattle.ms_ast.proofs.Inks.{texts_after}
 use Rattle.ms_ast.proofs.literal.print_literals.Given as goal

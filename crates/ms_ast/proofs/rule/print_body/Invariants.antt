@@ -1,5 +1,5 @@
-use Rattle.std.proofs.Common.{◌≡◌, ◌++◌, [], ◌∷◌, map, drop, length, ◌+◌, ◌*◌}
-use Rattle.ms_ast.specs.Ink.{Ink, word, ink_text, side_by_side, comma, comma_blank, semicolon_blank}
+use Rattle.std.proofs.Common.{◌≡◌, ◌++◌, [], ◌∷◌, map, drop}
+use Rattle.ms_ast.specs.Ink.{ink_text}
 use Rattle.ms_ast.specs.Statements.{part_ink, body_ink}
 use Rattle.ms_ast.proofs.Inks.{texts_after}
 use Rattle.ms_ast.proofs.rule.print_body.Given as goal

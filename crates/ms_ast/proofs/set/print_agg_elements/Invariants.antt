@@ -1,5 +1,5 @@
-use Rattle.std.proofs.Common.{◌≡◌, ◌++◌, [], ◌∷◌, map, drop, length, ◌+◌, ◌*◌}
-use Rattle.ms_ast.specs.Ink.{Ink, word, ink_text, side_by_side, comma, comma_blank, semicolon_blank}
+use Rattle.std.proofs.Common.{◌≡◌, ◌++◌, [], ◌∷◌, map, drop}
+use Rattle.ms_ast.specs.Ink.{ink_text, side_by_side, semicolon_blank}
 use Rattle.ms_ast.specs.Statements.{agg_element_ink}
 use Rattle.ms_ast.proofs.Inks.{texts_after}
 use Rattle.ms_ast.proofs.set.print_agg_elements.Given as goal

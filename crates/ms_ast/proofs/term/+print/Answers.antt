@@ -1,10 +1,10 @@
-use Rattle.std.proofs.Common.{◌≡◌, ℕ, ◌+◌, ◌*◌, ◌≤◌, ◌<◌, List, [], ◌∷◌, ◌++◌, map, length, refl, sym, ap, ◌∙◌, arith, append_assoc}
+use Rattle.std.proofs.Common.{◌≡◌, ◌+◌, ◌*◌, ◌<◌, [], ◌∷◌, ◌++◌, map, length, sym, ap, ◌∙◌, arith}
 use Rattle.std.proofs.lemmas.Bool.{eqb-true}
 use Rattle.ms_ast.specs.declared.line.Line.TheVariants.{Sum, Unary}
 use Rattle.ms_ast.specs.Ink.{ink_text}
-use Rattle.ms_ast.specs.Terms.{printed, at_line, op_line, list_ink, lists_ink, alternatives_ink}
+use Rattle.ms_ast.specs.Terms.{printed, at_line, op_line, list_ink, alternatives_ink}
 use Rattle.ms_ast.proofs.Sizes.{term_size, terms_size, lists_size, size_within, list_within}
-use Rattle.ms_ast.proofs.TermTexts.{some_from_test, four_appended, two_appended, three_appended, pool_text, interval_text, neg_text, abs_text, binary_text, parens_text, tuple_text, applied_text, constant_text, one_tuple_text, list_text, alternatives_text, lists_text}
+use Rattle.ms_ast.proofs.TermTexts.{some_from_test, four_appended, two_appended, three_appended, pool_text, interval_text, neg_text, abs_text, binary_text, parens_text, tuple_text, applied_text, one_tuple_text, list_text, alternatives_text, lists_text}
 use Rattle.ms_ast.proofs.term.+print.Goals as goal
 
 pub print_alternatives-loop-term-init : goal.print_alternatives-loop-term-init

@@ -1,4 +1,4 @@
-use Rattle.std.proofs.Common.{◌≡◌, ◌++◌, [], ◌∷◌, map, drop, length, ◌+◌, ◌*◌}
+use Rattle.std.proofs.Common.{◌≡◌, ◌++◌, [], ◌∷◌, map, drop, ◌+◌, ◌*◌}
 use Rattle.ms_ast.specs.Ink.{ink_text}
 use Rattle.ms_ast.specs.Terms.{printed, list_ink, lists_ink, alternatives_ink}
 use Rattle.ms_ast.proofs.Inks.{texts_after}
