@@ -48,9 +48,9 @@ name_where false l = elim l.truth [ true ↦ None | false ↦ Some l.name ]
 abbrev pub with_body : Option (List ℕ) → List PlainLiteral → PlainRule
 with_body head literals = record { head = head; pos = filter_map (name_where true) literals; neg = filter_map (name_where false) literals }
 
--- The rule of plain names that a statement is, if it is one. A constraint has no head.
+-- The rule of plain names that a statement is, if it is one. A constraint has no head and some body.
 abbrev pub plain_rule : Form → Option PlainRule
-plain_rule (Rule Empty body) = option_map (with_body None) (each_given plain_literal body)
+plain_rule (Rule Empty (part ∷ body)) = option_map (with_body None) (each_given plain_literal (part ∷ body))
 plain_rule (Rule (Atom t) body) = both (λ name literals. Some (with_body (Some name) literals)) (plain_name t) (each_given plain_literal body)
 plain_rule form = None
 

@@ -5,8 +5,15 @@ mod Digits
 mod NameLemmas
 mod Lines
 mod Apart
+mod NameSteps
+mod TokenFronts
 mod Fronts
 mod Copies
 mod Bodies
 mod Tails
 mod Rules
+mod PlainStarts
+mod Contents
+mod StatementLemmas
+mod PiecewiseLemmas
+mod ValueLemmas

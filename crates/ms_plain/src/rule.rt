@@ -19,6 +19,7 @@ pub(crate) fn plain_rule(alloc: Global, form: &Form) -> Result<Option<PlainRule>
         return Ok(None);
     };
     let head = match head {
+        Head::Empty if body.is_empty() => return Ok(None),
         Head::Empty => None,
         Head::Atom(atom) => {
             let Some(name) = plain_name(atom) else {

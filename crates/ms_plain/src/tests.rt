@@ -83,6 +83,15 @@ fn forms(rt: HostRuntime) -> Result<(), Fail> {
         body: body(alloc, "-b")?,
     };
     assert_eq!(rt; shown(alloc, constraint)?.as_str(), "-b ", "a constraint");
+    let no_rule = Form::Rule {
+        head: Head::Empty,
+        body: Seq::new(alloc),
+    };
+    assert_eq!(rt;
+        shown(alloc, no_rule)?.as_str(),
+        "none",
+        "neither head nor body"
+    );
     let with_pool = Form::Rule {
         head: Head::Atom(atom(alloc, "a", 2)?),
         body: Seq::new(alloc),

@@ -1,8 +1,8 @@
 -- Lines of the grammar between those of statements.
-use Rattle.std.specs.Prelude.{Bool, true, false, if◌then◌else◌, List, [], ◌∷◌, ◌++◌, map, drop, Option, Some, None}
+use Rattle.std.specs.Prelude.{true, false, if◌then◌else◌, List, [], ◌∷◌, ◌++◌, map, drop, Option, Some, None}
 use Rattle.std.specs.Option.{option_map, option_and_then}
 use Rattle.ms_text.specs.declared.token.TokenKind.{TokenKind}
-use Rattle.ms_text.specs.declared.token.TokenKind.TheVariants.{Not, Semicolon, LeftBrace, RightBrace}
+use Rattle.ms_text.specs.declared.token.TokenKind.TheVariants.{Semicolon, LeftBrace, RightBrace}
 use Rattle.ms_grammar.specs.declared.term.TextTerm.{TextTerm}
 use Rattle.ms_grammar.specs.declared.statement.Cmp.{Cmp}
 use Rattle.ms_grammar.specs.declared.statement.Cmp.TheVariants.{Le}
@@ -10,8 +10,6 @@ use Rattle.ms_grammar.specs.declared.statement.AggFn.{AggFn}
 use Rattle.ms_grammar.specs.declared.statement.TextLit.{TextLit}
 use Rattle.ms_grammar.specs.declared.statement.TextLit.TheVariants.{Positive, Negated, Test}
 use Rattle.ms_grammar.specs.declared.statement.TextGuard.{TextGuard}
-use Rattle.ms_grammar.specs.declared.statement.SetElement.{SetElement}
-use Rattle.ms_grammar.specs.declared.statement.AggElement.{AggElement}
 use Rattle.ms_grammar.specs.declared.statement.Head.{Head}
 use Rattle.ms_grammar.specs.declared.statement.Head.TheVariants.{Atom as HeadAtom, Set as HeadSet}
 use Rattle.ms_grammar.specs.declared.statement.BodyLit.{BodyLit}
@@ -19,7 +17,7 @@ use Rattle.ms_grammar.specs.declared.statement.BodyLit.TheVariants.{Lit, Set as 
 use Rattle.ms_grammar.specs.declared.part.Counted.{Counted}
 use Rattle.ms_grammar.specs.Words.{Word, sign, separated}
 use Rattle.ms_grammar.specs.Terms.{Term, term_words, both}
-use Rattle.ms_grammar.specs.Statements.{alone, with_value, beside, join, row_of, bounded, term_spelled, cmp_of, SetPart, set_part_words, set_part_spelled, TuplePart, tuple_part_words, tuple_part_spelled, Guard, right_words, guard_spelled, function_kind, set_from, aggregate_from}
+use Rattle.ms_grammar.specs.Statements.{alone, with_value, beside, join, row_of, bounded, term_spelled, cmp_of, SetPart, set_part_words, set_part_spelled, TuplePart, tuple_part_words, tuple_part_spelled, Guard, right_words, guard_spelled, function_kind, set_from, aggregate_from, Choice, choice_words, choice_spelled, Aggregate, aggregate_words, aggregate_spelled}
 use Rattle.ms_read_part.specs.declared.term.Lead.{Lead}
 use Rattle.ms_read_part.specs.declared.group.Group.{Group}
 use Rattle.ms_read_part.specs.declared.group.Group.TheVariants.{Set, Agg}
@@ -82,18 +80,30 @@ in_braces ws = sign LeftBrace ∷ ws ++ sign RightBrace ∷ []
 abbrev pub closed_by : {T : Type 0} → T → List Word → Option (T × List Word)
 closed_by value rest = if is_right_brace (front_kind rest) then Some (value, drop 1 rest) else None
 
+abbrev pub set_words : List SetPart → List Word
+set_words es = in_braces (separated (sign Semicolon) (map set_part_words es))
+
+abbrev pub tuples_words : List TuplePart → List Word
+tuples_words es = in_braces (separated (sign Semicolon) (map tuple_part_words es))
+
+abbrev pub set_spelled : List SetPart → Option (Counted Group)
+set_spelled es = option_map (with_value Set) (row_of set_part_spelled es)
+
+abbrev pub aggregate_group_spelled : AggFn → List TuplePart → Option (Counted Group)
+aggregate_group_spelled of es = option_map (with_value (Agg of)) (row_of tuple_part_spelled es)
+
 -- elements in braces, or those of a function
 pub data GroupPart : Type 0 where
-  set : List SetPart → GroupPart
-  function : AggFn → List TuplePart → GroupPart
+  set_group : List SetPart → GroupPart
+  function_group : AggFn → List TuplePart → GroupPart
 
 abbrev pub group_words : GroupPart → List Word
-group_words (set elements) = in_braces (separated (sign Semicolon) (map set_part_words elements))
-group_words (function of elements) = sign (function_kind of) ∷ in_braces (separated (sign Semicolon) (map tuple_part_words elements))
+group_words (set_group es) = set_words es
+group_words (function_group of es) = sign (function_kind of) ∷ tuples_words es
 
 abbrev pub group_spelled : GroupPart → Option (Counted Group)
-group_spelled (set elements) = option_map (with_value Set) (row_of set_part_spelled elements)
-group_spelled (function of elements) = option_map (with_value (Agg of)) (row_of tuple_part_spelled elements)
+group_spelled (set_group es) = set_spelled es
+group_spelled (function_group of es) = aggregate_group_spelled of es
 
 -- a group with the guard behind it
 abbrev pub guarded_words : GroupPart × Option Guard → List Word
@@ -104,8 +114,8 @@ guarded_spelled d = join (λ group right. (group, right)) (group_spelled d.0) (g
 
 -- what stands behind a term at the front
 pub data TailPart : Type 0 where
-  literal : Option (TokenKind × Term) → TailPart
-  guarded : Option TokenKind → GroupPart × Option Guard → TailPart
+  literal_tail : Option (TokenKind × Term) → TailPart
+  guarded_tail : Option TokenKind → GroupPart × Option Guard → TailPart
 
 abbrev pub sign_words : Option TokenKind → List Word
 sign_words None = []
@@ -123,12 +133,12 @@ abbrev pub guarded_tail_spelled : Cmp → GroupPart × Option Guard → Option T
 guarded_tail_spelled cmp d = option_map (Guarded cmp) (guarded_spelled d)
 
 abbrev pub tail_words : TailPart → List Word
-tail_words (literal c) = comparison_words c
-tail_words (guarded kind d) = sign_words kind ++ guarded_words d
+tail_words (literal_tail c) = comparison_words c
+tail_words (guarded_tail kind d) = sign_words kind ++ guarded_words d
 
 abbrev pub tail_spelled : TailPart → Option Tail
-tail_spelled (literal c) = literal_tail_spelled c
-tail_spelled (guarded kind d) = option_and_then (λ cmp. guarded_tail_spelled cmp d) (guard_cmp kind)
+tail_spelled (literal_tail c) = literal_tail_spelled c
+tail_spelled (guarded_tail kind d) = option_and_then (λ cmp. guarded_tail_spelled cmp d) (guard_cmp kind)
 
 abbrev pub group_from : Option TextGuard → Group × Option TextGuard → BodyLit
 group_from left (Set elements, right) = BodySet false (set_from left (elements, right))
@@ -154,16 +164,19 @@ led_spelled d = option_and_then (λ v. part_of v.0 v.1) (spelled_then lead_spell
 
 -- a part of a body without `not`
 pub data PlainPart : Type 0 where
-  unled : GroupPart × Option Guard → PlainPart
-  led : Term × TailPart → PlainPart
+  plain_literal : Term × Option (TokenKind × Term) → PlainPart
+  plain_choice : Choice → PlainPart
+  plain_aggregate : Aggregate → PlainPart
 
 abbrev pub plain_words : PlainPart → List Word
-plain_words (unled d) = guarded_words d
-plain_words (led d) = led_words d
+plain_words (plain_literal d) = plain_literal_words d
+plain_words (plain_choice s) = choice_words s
+plain_words (plain_aggregate a) = aggregate_words a
 
 abbrev pub plain_spelled : PlainPart → Option (Counted BodyLit)
-plain_spelled (unled d) = unled_spelled d
-plain_spelled (led d) = led_spelled d
+plain_spelled (plain_literal d) = option_map (with_value Lit) (plain_literal_spelled d)
+plain_spelled (plain_choice s) = option_map (with_value (BodySet false)) (choice_spelled s)
+plain_spelled (plain_aggregate a) = option_map (with_value (BodyAgg false)) (aggregate_spelled a)
 
 -- only an atom, a set or an aggregate may have `not` in front
 abbrev pub negated_part : BodyLit → Option BodyLit

@@ -1,9 +1,12 @@
 // What is left to read.
-ghost use Rattle.std.specs.Prelude.{◌≡◌, ◌≤◌, List, length, drop};
+ghost use Rattle.std.specs.Prelude.{◌≡◌, ◌≢◌, ◌≤◌, List, length, drop, Some, true, false};
+ghost use Rattle.std.specs.Option.{option_map};
 ghost use Rattle.ms_text.specs.Tokens.{LieWithin};
 ghost use Rattle.ms_grammar.specs.Words.{Word, words_of};
 ghost use Rattle.ms_read_part.specs.Kinds.{front_kind};
+ghost use Rattle.ms_read_part.specs.Cuts.{ended};
 
+use crate::kinds::ends_at;
 use ms_base::memory::OutOfMemory;
 use ms_text::token::{Token, TokenKind};
 use std::alloc::Global;
@@ -60,6 +63,17 @@ impl<'a> Input<'a> {
         }
     }
 
+    /// Whether the first token is of this kind.
+    pub(crate) fn begins_with(&self, kind: TokenKind) -> bool
+        ensures is { result ≡ true → front_kind self.now ≡ Some kind }
+        ensures is_not { result ≡ false → front_kind self.now ≢ Some kind }
+    {
+        match self.front() {
+            Some(front) => front == kind,
+            None => false,
+        }
+    }
+
     /// The kind of the second token.
     pub(crate) fn second(&self) -> Option<TokenKind>
         ensures { result ≡ front_kind (drop 1 self.now) }
@@ -81,6 +95,16 @@ impl<'a> Input<'a> {
         }
     }
 
+    /// The value, if there is one, with what is left behind it.
+    pub(crate) fn behind<T>(self, value: Option<T>) -> Option<(T, Input<'a>)>
+        ensures { result ≡ option_map (λ v. (v, self.entry)) value }
+    {
+        match value {
+            Some(value) => Some((value, self)),
+            None => None,
+        }
+    }
+
     /// What is left after so many tokens.
     pub(crate) fn after(self, len: usize) -> Self
         requires { len ≤ length self }
@@ -96,5 +120,18 @@ impl<'a> Input<'a> {
             text,
             tokens: &tokens[len..],
         }
+    }
+}
+
+/// What was read of so many tokens, with the number of those that were read, where what is left may follow
+/// a part of a statement.
+pub(crate) fn ended<T: Drop>(found: Option<(T, Input)>, len: usize) -> Option<(T, usize)>
+    ensures { result ≡ ended len found.entry }
+{
+    let (value, rest) = found?;
+    if ends_at(rest.front()) {
+        Some((value, len.saturating_sub(rest.len())))
+    } else {
+        None
     }
 }

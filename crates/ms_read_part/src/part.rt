@@ -16,7 +16,7 @@ ghost use Rattle.ms_read_part.specs.Cuts.{Reads};
 use crate::counted::{alone, beside};
 use crate::group::{Group, Guarded, guard, read_guarded};
 use crate::input::{Found, Input};
-use crate::kinds::{cmp_at, ends_at, opened_by};
+use crate::kinds::{cmp_at, ends_at, opens};
 use crate::literal::{Comparison, literal_of, negated_literal, read_comparison};
 use crate::term::{Lead, read_lead};
 use ms_grammar::part::Counted;
@@ -36,13 +36,13 @@ fn read_tail<'a>(input: Input<'a>) -> Found<'a, Tail>
     ensures { IfOk result (Reads TailPart Tail tail_words tail_spelled EndsPart input.entry) }
 {
     let front = input.front();
-    if opened_by(front).is_some() {
+    if opens(front) {
         return read_guarded_tail(Cmp::Le, input);
     }
     let Some(cmp) = cmp_at(front) else {
         return read_literal_tail(input);
     };
-    if opened_by(input.second()).is_some() {
+    if opens(input.second()) {
         read_guarded_tail(cmp, input.after_front())
     } else {
         read_literal_tail(input)
@@ -128,7 +128,7 @@ fn group_from(left: Option<TextGuard>, group: Group, right: Option<TextGuard>) -
 fn read_plain_part<'a>(input: Input<'a>) -> Found<'a, Counted<BodyLit>>
     ensures { IfOk result (Reads PlainPart (Counted BodyLit) plain_words plain_spelled EndsPart input.entry) }
 {
-    if opened_by(input.front()).is_some() {
+    if opens(input.front()) {
         read_unled(input)
     } else {
         read_led(input)
@@ -155,20 +155,20 @@ fn read_led<'a>(input: Input<'a>) -> Found<'a, Counted<BodyLit>>
     let Some((tail, rest)) = read_tail(rest)? else {
         return Ok(None);
     };
-    Ok(part_of(lead, tail).map(|part| (part, rest)))
+    Ok(rest.behind(part_of(lead, tail)))
 }
 
 /// The part of a body at the front.
-pub(crate) fn read_part<'a>(input: Input<'a>) -> Found<'a, Counted<BodyLit>>
+pub(crate) fn read_body_part<'a>(input: Input<'a>) -> Found<'a, Counted<BodyLit>>
     ensures { IfOk result (Reads BodyPart (Counted BodyLit) body_part_words body_part_spelled EndsPart input.entry) }
 {
-    if !matches!(input.front(), Some(TokenKind::Not)) {
+    if !input.begins_with(TokenKind::Not) {
         return read_plain_part(input);
     }
     let Some((part, rest)) = read_plain_part(input.after_front())? else {
         return Ok(None);
     };
-    Ok(counted_negated(part).map(|part| (part, rest)))
+    Ok(rest.behind(counted_negated(part)))
 }
 
 fn counted_negated(part: Counted<BodyLit>) -> Option<Counted<BodyLit>>
@@ -198,7 +198,7 @@ fn negated(part: BodyLit) -> Option<BodyLit>
 }
 
 /// The head at the front.
-pub(crate) fn read_head_form<'a>(input: Input<'a>) -> Found<'a, Counted<Head>>
+pub(crate) fn read_head<'a>(input: Input<'a>) -> Found<'a, Counted<Head>>
     ensures { IfOk result (Reads HeadPart (Counted HeadForm) head_words head_spelled EndsPart input.entry) }
 {
     if ends_at(input.front()) {
@@ -207,7 +207,7 @@ pub(crate) fn read_head_form<'a>(input: Input<'a>) -> Found<'a, Counted<Head>>
     let Some((part, rest)) = read_plain_part(input)? else {
         return Ok(None);
     };
-    Ok(counted_head(part).map(|head| (head, rest)))
+    Ok(rest.behind(counted_head(part)))
 }
 
 fn counted_head(part: Counted<BodyLit>) -> Option<Counted<Head>>

@@ -1,0 +1,9 @@
+mod Numbers
+mod Strings
+mod Closings
+mod Running
+mod Complete
+mod Spelled
+mod Standing
+mod Sound
+mod Reading

@@ -49,7 +49,7 @@ fn scripts_have_their_replies(rt: HostRuntime) -> Result<(), Fail> {
     let refused = Status::SomeRefused;
     let facts =
         b"@add\na1. a2. a3. a4. a5. a6. a7. a8. a9. a10. a11. a12. a13. a14. a15. a16. a17. a18. a19. a20. a21.\n@end\n@ground base\n@ground base\n@solve all\n";
-    let rows: [(&str, &[u8], Status, &str); 26] = [
+    let rows: [(&str, &[u8], Status, &str); 27] = [
         ("empty input", b"", done, ""),
         ("blanks and a comment", b" \t\n\r\n% @add\n", done, ""),
         ("two answers", TWO_RULES.as_bytes(), done, TWO_REPLIES),
@@ -99,7 +99,7 @@ fn scripts_have_their_replies(rt: HostRuntime) -> Result<(), Fail> {
             "a variable begins no token",
             b"@add\n#program step(t,u). #external p(t). #const n = -3. #show p/2. #show. #include <incmode>.\n:- . a() :- b; not c, 1..2 < |x-3|. { p(1;2) : q, not r; s } <= 2. 1 #count { 1,(2,) : a } 3 :- not 2 < #sum { -X }.\n@end\n",
             refused,
-            "refused syntax 3\n",
+            "refused syntax 2\n",
         ),
         (
             "each form of a statement that there is",
@@ -108,10 +108,16 @@ fn scripts_have_their_replies(rt: HostRuntime) -> Result<(), Fail> {
             "added 10\n",
         ),
         (
-            "a constraint without a body, and empty parentheses",
-            b"@add\na(). b :- a; not c.\n@end\n@add\n:- .\n@end\n@ground base\n@solve all\n",
+            "empty parentheses, an empty body and semicolons",
+            b"@add\na(). b :- a; not c.\n@end\n@add\nd :- .\n@end\n@ground base\n@solve all\n",
             done,
-            "added 2\nadded 1\ngrounded atoms=2 rules=3\ncomplete 0\n",
+            "added 2\nadded 1\ngrounded atoms=3 rules=3\nanswer: a b d\ncomplete 1\n",
+        ),
+        (
+            "a constraint without a body waits",
+            b"@add\n:- .\n@end\n@ground base\n",
+            refused,
+            "added 1\nrefused later\n",
         ),
         (
             "a comparison waits",

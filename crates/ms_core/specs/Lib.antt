@@ -1,0 +1,5 @@
+pub mod Replacing
+pub mod Pools
+pub mod Ranges
+pub mod CoreRules
+pub mod Texts
