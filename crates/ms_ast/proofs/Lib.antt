@@ -12,6 +12,8 @@ pub mod Operations
 pub mod Parts
 pub mod Printing
 pub mod ReadBack
+pub mod ReadsGroups
+pub mod ReadsParts
 pub mod Rows
 pub mod RuleLaw
 pub mod SentenceLaw
@@ -23,3 +25,4 @@ pub mod StringTokens
 pub mod TermLaw
 pub mod TermTexts
 pub mod ValueLaw
+pub mod WordReader
