@@ -14,6 +14,7 @@ pub mod Printing
 pub mod ReadBack
 pub mod ReadsGroups
 pub mod ReadsParts
+pub mod ReadsStatements
 pub mod Rows
 pub mod RuleLaw
 pub mod SentenceLaw

@@ -1,5 +1,5 @@
 -- A printed statement is read back.
-use Rattle.std.proofs.Common.{[], refl, sym, ◌∙◌, subst}
+use Rattle.std.proofs.Common.{[], refl, sym, ap, ◌∙◌, subst}
 use Rattle.std.specs.Option.{IfSome}
 use Rattle.ms_grammar.specs.declared.statement.Form.{Form}
 use Rattle.ms_grammar.specs.declared.part.Counted.{Counted}
@@ -8,6 +8,7 @@ use Rattle.ms_ast.specs.Statements.{statement_ink, statement_text}
 use Rattle.ms_ast.specs.Law.{HaveNames, IsInGrammar, IsReadAs}
 use Rattle.ms_ast.proofs.Bytes.{IsRead, read_sentence}
 use Rattle.ms_ast.proofs.SentenceLaw.{SentenceIs, sentence_is}
+use Rattle.ms_ast.proofs.ReadsStatements.{spelled_once}
 
 counted_read : (c : Counted Form) → HasFewCopies c → SentenceIs c → IsReadAs (statement_text c.value) c.value
 counted_read c few s =
@@ -24,6 +25,7 @@ counted_read c few s =
         value_is = refl;
         few = few;
       };
+      only = λ other o. sym o.value_is ∙ ap (λ d. d.value) (spelled_once o.sentence s.derivation o.counts c (o.words_are ∙ r.words ∙ sym s.words_are) o.spelled s.spells);
     }
 
 pub reads_back : (form : Form) → IsInGrammar form → IsReadAs (statement_text form) form

@@ -30,3 +30,4 @@ pub record IsReadAs (text : List ℕ) (form : Form) : Type 0 where
   pub has_tokens : tokens_of text ≡ Ok tokens
   pub one_piece : pieces_of tokens ≡ tokens ∷ []
   pub spells : Spells (words_of text tokens) form
+  pub only : (other : Form) → Spells (words_of text tokens) other → other ≡ form
