@@ -1,6 +1,7 @@
 pub mod Apart
 pub mod Bytes
 pub mod FormTexts
+pub mod FromText
 pub mod Fronts
 pub mod Inks
 pub mod Lines

@@ -19,7 +19,7 @@ part_of_text front part tail =
     let len : length front + length part - length front ≡ length part = omega arith in
     ap (λ bs. take (length front + length part - length front) bs) (drop-append_seam front (part ++ tail)) ∙ ap (λ n. take n (part ++ tail)) len ∙ take-append_seam part tail
 
-word_bytes-cons : (b : ℕ) (bs : List ℕ) (t : Bool) → is_word b ≡ t → length (take_while is_word (b ∷ bs)) ≡ cond t (suc (length (take_while is_word bs))) 0
+pub word_bytes-cons : (b : ℕ) (bs : List ℕ) (t : Bool) → is_word b ≡ t → length (take_while is_word (b ∷ bs)) ≡ cond t (suc (length (take_while is_word bs))) 0
 word_bytes-cons b bs true e = ap length (take_while-cons is_word b bs ∙ ap (λ t. cond t (b ∷ take_while is_word bs) []) e)
 word_bytes-cons b bs false e = ap length (take_while-cons is_word b bs ∙ ap (λ t. cond t (b ∷ take_while is_word bs) []) e)
 
@@ -36,10 +36,10 @@ words_more [] [] h f = refl
 words_more [] (c ∷ cs) h f = word_bytes-cons c cs false f
 words_more (b ∷ bs) tail h f = words_more_by b bs tail h (λ e. words_more bs tail e f) (is_word b) refl
 
-abbrev name_by : Bool → Bool → List ℕ → Option ℕ
+abbrev pub name_by : Bool → Bool → List ℕ → Option ℕ
 name_by underscore lower bs = if underscore then option_map suc (name_len bs) else if lower then Some (suc (length (take_while is_word bs))) else None
 
-name_is : (b : ℕ) (bs : List ℕ) (underscore lower : Bool) → eqb b 95 ≡ underscore → is_lower b ≡ lower → name_len (b ∷ bs) ≡ name_by underscore lower bs
+pub name_is : (b : ℕ) (bs : List ℕ) (underscore lower : Bool) → eqb b 95 ≡ underscore → is_lower b ≡ lower → name_len (b ∷ bs) ≡ name_by underscore lower bs
 name_is b bs underscore lower u l = λ i. name_by (u i) (l i) bs
 
 one_less : (o : Option ℕ) (n : ℕ) → option_map suc o ≡ Some (suc n) → o ≡ Some n
