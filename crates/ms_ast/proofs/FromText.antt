@@ -1,5 +1,5 @@
 -- The statements of a text are ones that the grammar has.
-use Rattle.std.proofs.Common.{◌≡◌, ℕ, zero, suc, ◌+◌, ◌-◌, Bool, true, false, cond, eqb, ◌==◌, ◌||◌, List, [], ◌∷◌, ◌++◌, map, length, take, drop, take_while, Option, Some, None, Result, Ok, Err, refl, sym, ap, ◌∙◌, subst, arith, append_assoc, length-append, if◌then◌else◌}
+use Rattle.std.proofs.Common.{◌≡◌, ℕ, zero, suc, ◌+◌, ◌-◌, Bool, true, false, cond, eqb, ◌==◌, ◌||◌, List, [], ◌∷◌, ◌++◌, length, take, take_while, Option, Some, None, Result, Ok, Err, refl, sym, ap, ◌∙◌, subst, arith, append_assoc, length-append, if◌then◌else◌}
 use Rattle.std.specs.Prelude.{codes}
 use Rattle.std.specs.List.{slice_range}
 use Rattle.std.specs.Option.{IfSome, option_map}
@@ -8,13 +8,13 @@ use Rattle.ms_text.specs.declared.token.Token.{Token}
 use Rattle.ms_text.specs.declared.token.TokenKind.{TokenKind}
 use Rattle.ms_text.specs.declared.token.TokenKind.TheVariants.{Name, Number, Text, Program, External, Const, Show, Include, Count, Sum, Dot, DotDot, Comma, Semicolon, Colon, If, LeftParen, RightParen, LeftBrace, RightBrace, Plus, Minus, Star, Slash, Backslash, Bar, Equal, EqualEqual, NotEqual, LessGreater, Less, LessEqual, Greater, GreaterEqual}
 use Rattle.ms_text.specs.declared.token.BadByte.{BadByte}
-use Rattle.ms_text.specs.Tokens.{is_word, is_digit, is_lower, is_blank, is_in_line, line_after, name_len, name_kind, name_token, number_of, number_token, number_within, greatest_number, text_len, text_token, is_directive, directive_kind, directive_token, longer, begins_with, sign_token, first_token, with_token, placed, tokens_from, tokens_of}
+use Rattle.ms_text.specs.Tokens.{is_word, is_digit, is_lower, is_blank, is_in_line, line_after, name_len, name_kind, name_token, number_token, number_within, text_len, text_token, is_directive, directive_kind, longer, begins_with, sign_token, first_token, with_token, placed, tokens_from, tokens_of}
 use Rattle.ms_grammar.specs.declared.statement.Statement.{Statement}
 use Rattle.ms_grammar.specs.Words.{Word, word_by_kind, words_of}
 use Rattle.ms_grammar.specs.Statements.{pieces_of, before_pieces, in_first, AreStatements}
 use Rattle.ms_ast.specs.Law.{IsName, HaveNames, IsInGrammar}
-use Rattle.ms_ast.proofs.Fronts.{front_by, front_is}
-use Rattle.ms_ast.proofs.NameTokens.{name_by, name_is, word_bytes-cons}
+use Rattle.ms_ast.proofs.Fronts.{front_by}
+use Rattle.ms_ast.proofs.NameTokens.{name_is, word_bytes-cons}
 
 -- the front of a text that is a name
 front_words_by : (b : ℕ) (bs : List ℕ) (t : Bool) → is_word b ≡ t
@@ -183,8 +183,8 @@ token_names front b bs line (Some found) e rest =
     let len : length front + found.1 - length front ≡ found.1 = omega arith in
     let part : slice_range (front ++ b ∷ bs) (length front) (length front + found.1) ≡ take found.1 (b ∷ bs) = ap (λ xs. take (length front + found.1 - length front) xs) (drop-append_seam front (b ∷ bs)) ∙ ap (λ n. take n (b ∷ bs)) len in
     with_name (front ++ b ∷ bs) t (tokens_from (found.1 - 1) bs (suc (length front)) line)
-        (λ is_name. subst IsName (sym part) (found_name (b ∷ bs) found.1 (e ∙ ap (λ k. Some (k, found.1)) is_name)))
-        (rest (found.1 - 1))
+    (λ is_name. subst IsName (sym part) (found_name (b ∷ bs) found.1 (e ∙ ap (λ k. Some (k, found.1)) is_name)))
+    (rest (found.1 - 1))
 
 byte_names : (front : List ℕ) (b : ℕ) (bs : List ℕ) (line : ℕ) (blank comment : Bool) → ((skip line : ℕ) → NamesFound (front ++ b ∷ bs) (tokens_from skip bs (suc (length front)) line))
     → NamesFound (front ++ b ∷ bs) (elim blank [
@@ -209,8 +209,8 @@ names_from front [] skip line = tt
 names_from front (b ∷ bs) skip line =
     let further : length (front ++ b ∷ []) ≡ suc (length front) = omega (arith, length-append front (b ∷ [])) in
     let rest : (skip line : ℕ) → NamesFound (front ++ b ∷ bs) (tokens_from skip bs (suc (length front)) line) =
-        λ skip line. subst (λ n. NamesFound (front ++ b ∷ bs) (tokens_from skip bs n line)) further
-            (subst (λ text. NamesFound text (tokens_from skip bs (length (front ++ b ∷ [])) line)) (append_assoc front (b ∷ []) bs) (names_from (front ++ b ∷ []) bs skip line)) in
+    λ skip line. subst (λ n. NamesFound (front ++ b ∷ bs) (tokens_from skip bs n line)) further
+    (subst (λ text. NamesFound text (tokens_from skip bs (length (front ++ b ∷ [])) line)) (append_assoc front (b ∷ []) bs) (names_from (front ++ b ∷ []) bs skip line)) in
     by_skip front b bs skip line rest
 
 -- the words of pieces

@@ -18,6 +18,7 @@ pub mod ReadsParts
 pub mod ReadsStatements
 pub mod Rows
 pub mod RuleLaw
+pub mod Samples
 pub mod SentenceLaw
 pub mod SetLaw
 pub mod Signs

@@ -1,8 +1,8 @@
 -- What is spelled is what the function of the words gives: guards, sets, aggregates and parts of bodies.
-use Rattle.std.proofs.Common.{◌≡◌, ℕ, Bool, true, false, List, [], ◌∷◌, ◌++◌, map, Option, Some, None, refl, sym, ap, ◌∙◌, subst, append_assoc}
+use Rattle.std.proofs.Common.{◌≡◌, Bool, true, false, List, [], ◌∷◌, ◌++◌, map, Option, Some, None, refl, ap, ◌∙◌, append_assoc}
 use Rattle.std.specs.Option.{IfSome, option_map, option_and_then}
 use Rattle.ms_text.specs.declared.token.TokenKind.{TokenKind}
-use Rattle.ms_text.specs.declared.token.TokenKind.TheVariants.{Not, Count, Sum, Comma, Semicolon, LeftBrace, RightBrace}
+use Rattle.ms_text.specs.declared.token.TokenKind.TheVariants.{Not, Count, Sum, Semicolon, LeftBrace, RightBrace}
 use Rattle.ms_grammar.specs.declared.term.TextTerm.{TextTerm}
 use Rattle.ms_grammar.specs.declared.statement.Cmp.{Cmp}
 use Rattle.ms_grammar.specs.declared.statement.Cmp.TheVariants.{Le}
@@ -11,8 +11,6 @@ use Rattle.ms_grammar.specs.declared.statement.AggFn.TheVariants.{Count as count
 use Rattle.ms_grammar.specs.declared.statement.TextGuard.{TextGuard}
 use Rattle.ms_grammar.specs.declared.statement.TextLit.{TextLit}
 use Rattle.ms_grammar.specs.declared.statement.TextLit.TheVariants.{Positive, Negated}
-use Rattle.ms_grammar.specs.declared.statement.TextSet.{TextSet}
-use Rattle.ms_grammar.specs.declared.statement.TextAgg.{TextAgg}
 use Rattle.ms_grammar.specs.declared.statement.SetElement.{SetElement}
 use Rattle.ms_grammar.specs.declared.statement.AggElement.{AggElement}
 use Rattle.ms_grammar.specs.declared.statement.BodyLit.{BodyLit}
@@ -20,14 +18,14 @@ use Rattle.ms_grammar.specs.declared.statement.BodyLit.TheVariants.{Lit, Set as 
 use Rattle.ms_grammar.specs.declared.part.Part.{Part}
 use Rattle.ms_grammar.specs.declared.part.Counted.{Counted}
 use Rattle.ms_grammar.specs.Words.{Word, name, number, quoted, sign, separated}
-use Rattle.ms_grammar.specs.Reading.{carries_on, EndsTerm, ends_part, EndsPart}
+use Rattle.ms_grammar.specs.Reading.{EndsTerm, EndsPart}
 use Rattle.ms_grammar.specs.Terms as g
 use Rattle.ms_grammar.specs.Statements as st
 use Rattle.ms_grammar.specs.Statements.{Guard, left_words, right_words, guard_spelled, SetPart, set_part_words, set_part_spelled, TuplePart, tuple_part_words, tuple_part_spelled, Choice, choice_words, choice_spelled, set_from, Aggregate, aggregate_words, aggregate_spelled, aggregate_from, function_kind, BodyPart, body_part_words, body_part_spelled, Literal, literal_words, literal_spelled, atom_words, atom_spelled, bounded, term_spelled, cmp_of, alone, beside, join, row_of, with_value}
 use Rattle.ms_read_term.specs.Machine.{run, at_start}
 use Rattle.ms_ast.proofs.Somes.{map_some}
-use Rattle.ms_ast.proofs.WordReader.{Found, mapped, after, or_else, bounded_found, read_term, read_literal, read_some, read_any, is_semicolon, guard_with, test_with, left_by, left_behind, left_from, read_left, right_by, right_from, read_right, set_pair, agg_pair, choice_close, choice_open, read_choice, agg_close, agg_open, group_open, read_group, part_literal, part_else, read_part, read_set_part, read_tuple_part}
-use Rattle.ms_ast.proofs.ReadsParts.{found_is, weaker_by, part_ends_term, kind_is_no_cmp, cmp_ends_term, cmp_begins_none, end_begins_none, TermRuns, term_runs, term_reads, bounded_found_is, AtomRuns, atom_runs, LiteralRead, literal_reads, NoSeparator, separated_reads, any_from_some, ElementEnd, next_element, last_element, set_part_reads, tuple_part_reads}
+use Rattle.ms_ast.proofs.WordReader.{Found, mapped, after, or_else, bounded_found, read_term, read_some, read_any, is_semicolon, guard_with, test_with, left_by, left_behind, left_from, read_left, right_by, right_from, read_right, set_pair, agg_pair, choice_close, choice_open, read_choice, agg_close, agg_open, group_open, read_group, part_literal, part_else, read_part, read_set_part, read_tuple_part}
+use Rattle.ms_ast.proofs.ReadsParts.{weaker_by, part_ends_term, kind_is_no_cmp, cmp_ends_term, cmp_begins_none, end_begins_none, TermRuns, term_runs, term_reads, bounded_found_is, AtomRuns, atom_runs, LiteralRead, literal_reads, separated_reads, any_from_some, ElementEnd, next_element, last_element, set_part_reads, tuple_part_reads}
 
 -- what stands behind a guard on the left
 pub data BraceNext : List Word → Type 0 where
@@ -114,16 +112,16 @@ set_parts_read [] ws = refl
 set_parts_read (e ∷ es) ws =
     let all : List Word = separated (sign Semicolon) (map set_part_words (e ∷ es)) ++ sign RightBrace ∷ ws in
     weaker_by (row_of set_part_spelled (e ∷ es)) (λ c. read_some read_set_part is_semicolon all ≡ Some (c, sign RightBrace ∷ ws)) (λ c. read_any read_set_part is_semicolon all ≡ Some (c, sign RightBrace ∷ ws))
-        (λ c h. any_from_some (read_some read_set_part is_semicolon all) (Some (alone [], all)) c (sign RightBrace ∷ ws) h)
-        (separated_reads set_part_words set_part_spelled read_set_part is_semicolon ElementEnd set_part_reads semicolon_ends Semicolon refl e es (sign RightBrace ∷ ws) last_element refl)
+    (λ c h. any_from_some (read_some read_set_part is_semicolon all) (Some (alone [], all)) c (sign RightBrace ∷ ws) h)
+    (separated_reads set_part_words set_part_spelled read_set_part is_semicolon ElementEnd set_part_reads semicolon_ends Semicolon refl e es (sign RightBrace ∷ ws) last_element refl)
 
 tuple_parts_read : (es : List TuplePart) (ws : List Word) → IfSome (row_of tuple_part_spelled es) (λ c. read_any read_tuple_part is_semicolon (separated (sign Semicolon) (map tuple_part_words es) ++ sign RightBrace ∷ ws) ≡ Some (c, sign RightBrace ∷ ws))
 tuple_parts_read [] ws = refl
 tuple_parts_read (e ∷ es) ws =
     let all : List Word = separated (sign Semicolon) (map tuple_part_words (e ∷ es)) ++ sign RightBrace ∷ ws in
     weaker_by (row_of tuple_part_spelled (e ∷ es)) (λ c. read_some read_tuple_part is_semicolon all ≡ Some (c, sign RightBrace ∷ ws)) (λ c. read_any read_tuple_part is_semicolon all ≡ Some (c, sign RightBrace ∷ ws))
-        (λ c h. any_from_some (read_some read_tuple_part is_semicolon all) (Some (alone [], all)) c (sign RightBrace ∷ ws) h)
-        (separated_reads tuple_part_words tuple_part_spelled read_tuple_part is_semicolon ElementEnd tuple_part_reads semicolon_ends Semicolon refl e es (sign RightBrace ∷ ws) last_element refl)
+    (λ c h. any_from_some (read_some read_tuple_part is_semicolon all) (Some (alone [], all)) c (sign RightBrace ∷ ws) h)
+    (separated_reads tuple_part_words tuple_part_spelled read_tuple_part is_semicolon ElementEnd tuple_part_reads semicolon_ends Semicolon refl e es (sign RightBrace ∷ ws) last_element refl)
 
 -- words in their groups
 regrouped : (left before inside right rest : List Word) (closing : Word) → ((left ++ (before ++ inside)) ++ closing ∷ right) ++ rest ≡ left ++ (before ++ (inside ++ closing ∷ (right ++ rest)))
@@ -155,9 +153,9 @@ pub choice_reads : (s : Choice) (rest : List Word) → EndsPart rest → IfSome 
 choice_reads s rest e =
     let inside : List Word = separated (sign Semicolon) (map set_part_words s.elements) in
     choice_some (guard_spelled s.left) (row_of set_part_spelled s.elements) (guard_spelled s.right) (left_words s.left) inside (right_words s.right) rest
-        (left_reads s.left (sign LeftBrace ∷ (inside ++ sign RightBrace ∷ (right_words s.right ++ rest))) set_next)
-        (set_parts_read s.elements (right_words s.right ++ rest))
-        (right_reads s.right rest e)
+    (left_reads s.left (sign LeftBrace ∷ (inside ++ sign RightBrace ∷ (right_words s.right ++ rest))) set_next)
+    (set_parts_read s.elements (right_words s.right ++ rest))
+    (right_reads s.right rest e)
 
 -- a group: what is read of a set or an aggregate as a part of a body
 abbrev GroupRead : Bool → List Word → List Word → Counted BodyLit → Type 0
@@ -185,9 +183,9 @@ pub choice_group : (negated : Bool) (s : Choice) (rest : List Word) → EndsPart
 choice_group negated s rest e =
     let inside : List Word = separated (sign Semicolon) (map set_part_words s.elements) in
     choice_group_some negated (guard_spelled s.left) (row_of set_part_spelled s.elements) (guard_spelled s.right) (left_words s.left) inside (right_words s.right) rest
-        (left_reads s.left (sign LeftBrace ∷ (inside ++ sign RightBrace ∷ (right_words s.right ++ rest))) set_next)
-        (set_parts_read s.elements (right_words s.right ++ rest))
-        (right_reads s.right rest e)
+    (left_reads s.left (sign LeftBrace ∷ (inside ++ sign RightBrace ∷ (right_words s.right ++ rest))) set_next)
+    (set_parts_read s.elements (right_words s.right ++ rest))
+    (right_reads s.right rest e)
 
 function_next : (of : AggFn) (ws : List Word) → BraceNext (sign (function_kind of) ∷ ws)
 function_next count ws = count_next
@@ -220,9 +218,9 @@ pub aggregate_group : (negated : Bool) (a : Aggregate) (rest : List Word) → En
 aggregate_group negated a rest e =
     let inside : List Word = separated (sign Semicolon) (map tuple_part_words a.elements) in
     aggregate_some negated a.function_is (guard_spelled a.left) (row_of tuple_part_spelled a.elements) (guard_spelled a.right) (left_words a.left) inside (right_words a.right) rest
-        (left_reads a.left (sign (function_kind a.function_is) ∷ sign LeftBrace ∷ (inside ++ sign RightBrace ∷ (right_words a.right ++ rest))) (function_next a.function_is (sign LeftBrace ∷ (inside ++ sign RightBrace ∷ (right_words a.right ++ rest)))))
-        (tuple_parts_read a.elements (right_words a.right ++ rest))
-        (right_reads a.right rest e)
+    (left_reads a.left (sign (function_kind a.function_is) ∷ sign LeftBrace ∷ (inside ++ sign RightBrace ∷ (right_words a.right ++ rest))) (function_next a.function_is (sign LeftBrace ∷ (inside ++ sign RightBrace ∷ (right_words a.right ++ rest)))))
+    (tuple_parts_read a.elements (right_words a.right ++ rest))
+    (right_reads a.right rest e)
 
 -- an atom and a comparison are no group
 opens_none : (negated : Bool) (l : Counted (Option TextGuard)) (rest : List Word) → EndsPart rest → group_open negated l rest ≡ None

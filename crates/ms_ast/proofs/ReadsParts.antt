@@ -1,14 +1,12 @@
 -- What is spelled is what the function of the words gives: terms, literals and elements.
-use Rattle.std.proofs.Common.{◌≡◌, ℕ, zero, suc, ◌+◌, ◌<◌, ◌≤◌, Bool, true, false, List, [], ◌∷◌, ◌++◌, map, length, Option, Some, None, refl, sym, ap, ◌∙◌, subst, arith, append_assoc, append-nil, length-append}
+use Rattle.std.proofs.Common.{◌≡◌, ℕ, zero, suc, ◌<◌, ◌≤◌, Bool, true, false, List, [], ◌∷◌, ◌++◌, map, length, Option, Some, None, refl, sym, ap, ◌∙◌, subst, arith, append_assoc, append-nil, length-append}
 use Rattle.std.specs.Option.{IfSome, option_map, option_and_then}
 use Rattle.ms_text.specs.declared.token.TokenKind.{TokenKind}
-use Rattle.ms_text.specs.declared.token.TokenKind.TheVariants.{Not, DotDot, Dot, Comma, Semicolon, Colon, If, LeftParen, LeftBrace, RightBrace, Plus, Minus, Star, Slash, Backslash, Equal, EqualEqual, NotEqual, LessGreater, Less, LessEqual, Greater, GreaterEqual}
+use Rattle.ms_text.specs.declared.token.TokenKind.TheVariants.{Not, DotDot, Dot, Comma, Semicolon, Colon, If, LeftParen, RightBrace, Plus, Minus, Star, Slash, Backslash, Equal, EqualEqual, NotEqual, LessGreater, Less, LessEqual, Greater, GreaterEqual}
 use Rattle.ms_grammar.specs.declared.term.TextTerm.{TextTerm}
 use Rattle.ms_grammar.specs.declared.statement.Cmp.{Cmp}
 use Rattle.ms_grammar.specs.declared.statement.TextLit.{TextLit}
 use Rattle.ms_grammar.specs.declared.statement.TextLit.TheVariants.{Positive, Negated}
-use Rattle.ms_grammar.specs.declared.statement.SetElement.{SetElement}
-use Rattle.ms_grammar.specs.declared.statement.AggElement.{AggElement}
 use Rattle.ms_grammar.specs.declared.part.Part.{Part}
 use Rattle.ms_grammar.specs.declared.part.Counted.{Counted}
 use Rattle.ms_grammar.specs.Words.{Word, name, number, quoted, sign, separated}
@@ -19,7 +17,7 @@ use Rattle.ms_grammar.specs.Statements.{Atom, atom_words, atom_spelled, as_atom,
 use Rattle.ms_read_term.specs.Machine.{run, at_start}
 use Rattle.ms_read_term.proofs.Complete.{complete}
 use Rattle.ms_ast.proofs.Somes.{both_some, then_some, map_some}
-use Rattle.ms_ast.proofs.WordReader.{Found, mapped, after, or_else, read_atom, bounded_found, read_term, test_with, literal_by, literal_behind, literal_from, read_literal, row_behind, read_row, read_some, read_any, is_comma, is_semicolon, read_conditions, set_element, agg_element, read_set_part, read_tuple_part}
+use Rattle.ms_ast.proofs.WordReader.{Found, mapped, after, or_else, read_atom, bounded_found, read_term, test_with, literal_by, literal_behind, literal_from, read_literal, row_behind, read_row, read_some, is_comma, read_conditions, set_element, agg_element, read_set_part, read_tuple_part}
 
 -- what is found satisfies what is known of each thing that may be found
 pub found_is : {A : Type 0} (o : Option A) (P : A → Type 0) → ((x : A) → o ≡ Some x → P x) → IfSome o P
@@ -163,8 +161,8 @@ test_reads : (l r : g.Term) (kind : TokenKind) (rest : List Word) → EndsPart r
 test_reads l r kind rest e None is = tt
 test_reads l r kind rest e (Some cmp) is =
     both_some (λ x y. Some (beside (test_with cmp) x y)) (TermRuns (g.term_words l) (sign kind ∷ (g.term_words r ++ rest))) (λ d. read_term (g.term_words r ++ rest) ≡ Some (d, rest)) (LiteralRead (g.term_words l ++ sign kind ∷ g.term_words r) rest)
-        (λ c d h k. test_read (g.term_words l) (g.term_words r) rest kind cmp is c d h k)
-        (term_spelled l) (term_spelled r) (term_runs l (sign kind ∷ (g.term_words r ++ rest)) (cmp_ends_term kind cmp is)) (term_reads r rest (part_ends_term rest e))
+    (λ c d h k. test_read (g.term_words l) (g.term_words r) rest kind cmp is c d h k)
+    (term_spelled l) (term_spelled r) (term_runs l (sign kind ∷ (g.term_words r ++ rest)) (cmp_ends_term kind cmp is)) (term_reads r rest (part_ends_term rest e))
 
 pub literal_reads : (l : Literal) (rest : List Word) → EndsPart rest → IfSome (literal_spelled l) (LiteralRead (literal_words l) rest)
 literal_reads (st.positive a) rest e = map_some (with_value Positive) (AtomRuns (atom_words a) rest) (LiteralRead (atom_words a) rest) (λ c h. positive_read (atom_words a) rest e c h) (atom_spelled a) (atom_runs a rest (part_ends_term rest e))
@@ -209,14 +207,14 @@ module _ {D V : Type 0} (words : D → List Word) (spelled : D → Option (Count
   row_reads reads ends d more all zero few rest e free = absurd (omega arith)
   row_reads reads ends d [] all (suc n) few rest e free =
       both_some (λ c cs. Some (beside (λ x xs. x ∷ xs) c cs)) (λ c. read (words d ++ rest) ≡ Some (c, rest)) (λ cs. cs ≡ alone []) (RowRead (suc n) (words d ++ []) rest)
-          (λ c cs h k. subst (λ ws. RowRead (suc n) ws rest (beside (λ x xs. x ∷ xs) c cs)) (sym (append-nil (words d))) (subst (λ x. RowRead (suc n) (words d) rest (beside (λ x xs. x ∷ xs) c x)) (sym k) (last_read n (words d) rest free c h)))
-          (spelled d) (Some (alone [])) (reads d rest e) refl
+      (λ c cs h k. subst (λ ws. RowRead (suc n) ws rest (beside (λ x xs. x ∷ xs) c cs)) (sym (append-nil (words d))) (subst (λ x. RowRead (suc n) (words d) rest (beside (λ x xs. x ∷ xs) c x)) (sym k) (last_read n (words d) rest free c h)))
+      (spelled d) (Some (alone [])) (reads d rest e) refl
   row_reads reads ends d (m ∷ more) all (suc n) few rest e free =
       both_some (λ c cs. Some (beside (λ x xs. x ∷ xs) c cs)) (λ c. read (words d ++ m.0 ∷ ((words m.1 ++ more_words_of more) ++ rest)) ≡ Some (c, m.0 ∷ ((words m.1 ++ more_words_of more) ++ rest))) (RowRead n (words m.1 ++ more_words_of more) rest) (RowRead (suc n) (words d ++ m.0 ∷ (words m.1 ++ more_words_of more)) rest)
-          (λ c cs h k. next_read n (words d) m.0 (words m.1 ++ more_words_of more) rest all.0 c cs h k)
-          (spelled d) (row_of spelled (m.1 ∷ map (λ m. m.1) more))
-          (reads d (m.0 ∷ ((words m.1 ++ more_words_of more) ++ rest)) (ends m.0 ((words m.1 ++ more_words_of more) ++ rest) all.0))
-          (row_reads reads ends m.1 more all.1 n (omega arith) rest e free)
+      (λ c cs h k. next_read n (words d) m.0 (words m.1 ++ more_words_of more) rest all.0 c cs h k)
+      (spelled d) (row_of spelled (m.1 ∷ map (λ m. m.1) more))
+      (reads d (m.0 ∷ ((words m.1 ++ more_words_of more) ++ rest)) (ends m.0 ((words m.1 ++ more_words_of more) ++ rest) all.0))
+      (row_reads reads ends m.1 more all.1 n (omega arith) rest e free)
 
   more_words_long : (more : List (Word × D)) → length more ≤ length (more_words_of more)
   more_words_long [] = omega arith
@@ -249,8 +247,8 @@ module _ {D V : Type 0} (words : D → List Word) (spelled : D → Option (Count
       → IfSome (row_of spelled (d ∷ ds)) (λ c. read_some read separates (separated (sign kind) (map words (d ∷ ds)) ++ rest) ≡ Some (c, rest))
   separated_reads reads ends kind h d ds rest e free =
       subst (λ ws. IfSome (row_of spelled (d ∷ ds)) (λ c. read_some read separates (ws ++ rest) ≡ Some (c, rest))) (sym (separated_is kind d ds))
-          (subst (λ es. IfSome (row_of spelled (d ∷ es)) (λ c. read_some read separates ((words d ++ more_words_of (behind_sign kind ds)) ++ rest) ≡ Some (c, rest))) (back kind ds)
-              (some_reads reads ends d (behind_sign kind ds) (all_separate kind h ds) rest e free))
+      (subst (λ es. IfSome (row_of spelled (d ∷ es)) (λ c. read_some read separates ((words d ++ more_words_of (behind_sign kind ds)) ++ rest) ≡ Some (c, rest))) (back kind ds)
+      (some_reads reads ends d (behind_sign kind ds) (all_separate kind h ds) rest e free))
 
 pub any_from_some : {A : Type 0} (o other : Found A) (x : A) (rest : List Word) → o ≡ Some (x, rest) → or_else o other ≡ Some (x, rest)
 any_from_some o other x rest e = ap (λ p. or_else p other) e
@@ -295,8 +293,8 @@ conditions_read st.no_colon rest e = no_colon_read e
 conditions_read (st.colon []) rest e = colon_read e
 conditions_read (st.colon (l ∷ ls)) rest e =
     weaker_by (row_of literal_spelled (l ∷ ls)) (λ c. read_some read_literal is_comma (separated (sign Comma) (map literal_words (l ∷ ls)) ++ rest) ≡ Some (c, rest)) (ConditionsRead (conditions_words (st.colon (l ∷ ls))) rest)
-        (λ c h. any_from_some (read_some read_literal is_comma (separated (sign Comma) (map literal_words (l ∷ ls)) ++ rest)) (Some (alone [], separated (sign Comma) (map literal_words (l ∷ ls)) ++ rest)) c rest h)
-        (separated_reads literal_words literal_spelled read_literal is_comma EndsPart literal_reads comma_ends Comma refl l ls rest (element_ends_part e) (element_no_comma e))
+    (λ c h. any_from_some (read_some read_literal is_comma (separated (sign Comma) (map literal_words (l ∷ ls)) ++ rest)) (Some (alone [], separated (sign Comma) (map literal_words (l ∷ ls)) ++ rest)) c rest h)
+    (separated_reads literal_words literal_spelled read_literal is_comma EndsPart literal_reads comma_ends Comma refl l ls rest (element_ends_part e) (element_no_comma e))
 
 conditions_end : (c : Conditions) (rest : List Word) → ElementEnd rest → EndsTerm (conditions_words c ++ rest)
 conditions_end st.no_colon rest e = part_ends_term rest (element_ends_part e)

@@ -16,10 +16,9 @@ use Rattle.ms_grammar.specs.Terms.{greatest_numeral}
 use Rattle.ms_grammar.specs.Values.{Spelling, value_words, value_part}
 use Rattle.ms_grammar.specs.Statements as st
 use Rattle.ms_grammar.specs.Statements.{BodyPart, body_part_words, body_part_spelled, Body, body_words, body_spelled, more_words, separator, HeadPart, head_words, Tail, tail_words, tail_spelled, rule_spelled, Parameters, parameters_words, parameter_names, Sentence, sentence_words, sentence_spelled, atom_words, atom_spelled, choice_words, choice_spelled, alone, beside, join, row_of, with_value}
-use Rattle.ms_read_value.specs.Front.{counted}
 use Rattle.ms_read_value.proofs.Fronts.{is_read}
 use Rattle.ms_ast.proofs.Somes.{map_some, kept}
-use Rattle.ms_ast.proofs.WordReader.{mapped, or_else, read_atom, read_some, read_any, is_separator, read_part, read_choice, read_head, read_tail, rule_of, rule_end, rule_with, rule_from, read_rule, names_of, value_of, read_directive, rule_or, read_statement}
+use Rattle.ms_ast.proofs.WordReader.{mapped, or_else, read_atom, read_some, read_any, is_separator, read_part, read_choice, read_tail, rule_of, rule_with, rule_from, read_rule, names_of, value_of, read_directive, rule_or, read_statement}
 use Rattle.ms_ast.proofs.ReadsParts.{found_is, weaker_by, part_ends_term, AtomRuns, atom_runs, atom_read, AllSeparate, more_words_of, some_reads, any_from_some}
 use Rattle.ms_ast.proofs.ReadsGroups.{part_reads, choice_reads, atom_is_no_choice}
 
@@ -60,8 +59,8 @@ more_is (p ∷ ps) = ap (λ ws. separator p.0 ∷ (body_part_words p.1 ++ ws)) (
 body_reads : (b : Body) → IfSome (body_spelled b) (λ c. read_some read_part is_separator (body_words b ++ dot) ≡ Some (c, dot))
 body_reads b =
     subst (λ ws. IfSome (body_spelled b) (λ c. read_some read_part is_separator ((body_part_words b.first ++ ws) ++ dot) ≡ Some (c, dot))) (more_is b.more)
-        (subst (λ ps. IfSome (row_of body_part_spelled (b.first ∷ ps)) (λ c. read_some read_part is_separator ((body_part_words b.first ++ more_of (with_words b.more)) ++ dot) ≡ Some (c, dot))) (parts_back b.more)
-            (some_reads body_part_words body_part_spelled read_part is_separator EndsPart part_reads separator_ends b.first (with_words b.more) (all_separate b.more) dot refl refl))
+    (subst (λ ps. IfSome (row_of body_part_spelled (b.first ∷ ps)) (λ c. read_some read_part is_separator ((body_part_words b.first ++ more_of (with_words b.more)) ++ dot) ≡ Some (c, dot))) (parts_back b.more)
+    (some_reads body_part_words body_part_spelled read_part is_separator EndsPart part_reads separator_ends b.first (with_words b.more) (all_separate b.more) dot refl refl))
 
 -- what follows a head
 tail_reads : (t : Tail) → IfSome (tail_spelled t) (λ c. read_tail (tail_words t ++ dot) ≡ Some (c, dot))
@@ -69,7 +68,7 @@ tail_reads st.no_tail = refl
 tail_reads st.empty_tail = refl
 tail_reads (st.tail b) =
     weaker_by (body_spelled b) (λ c. read_some read_part is_separator (body_words b ++ dot) ≡ Some (c, dot)) (λ c. read_any read_part is_separator (body_words b ++ dot) ≡ Some (c, dot))
-        (λ c h. any_from_some (read_some read_part is_separator (body_words b ++ dot)) (Some (alone [], body_words b ++ dot)) c dot h) (body_reads b)
+    (λ c h. any_from_some (read_some read_part is_separator (body_words b ++ dot)) (Some (alone [], body_words b ++ dot)) c dot h) (body_reads b)
 
 tail_ends : (t : Tail) → EndsPart (tail_words t ++ dot)
 tail_ends st.no_tail = refl

@@ -9,7 +9,7 @@ use ms_base::memory::OutOfMemory;
 use ms_grammar::term::{TextTerm, TextTerms};
 use ms_tree::Op;
 
-/// Appends a term.
+/// Appends a term. It calls itself as deep as the term is high, which in the grammar is at most 201.
 #[cycle(print)]
 pub(crate) fn print_term(term: &TextTerm, into: &mut Vec<u8>) -> Result<(), OutOfMemory>
     ensures { OnOk result (into.new.items ≡ into.old.items ++ ink_text (printed term.now).ink) }

@@ -1,7 +1,9 @@
 use crate::form::print_statement;
+use crate::print;
 use ms_base::seq::{Bytes, Seq};
 use ms_grammar::statement::{
-    AggElement, AggFn, BodyLit, Cmp, Form, Head, SetElement, TextAgg, TextGuard, TextLit, TextSet,
+    AggElement, AggFn, BodyLit, Cmp, Form, Head, SetElement, Statement, TextAgg, TextGuard,
+    TextLit, TextSet,
 };
 use ms_grammar::term::TextTerm;
 use ms_grammar::value::Value;
@@ -366,5 +368,22 @@ fn directives(rt: HostRuntime) -> Result<(), Fail> {
     assert_eq!(rt; row.as_str(), "#show.!", "no atoms are shown");
     let row = shown(a, Form::IncludeIncmode)?;
     assert_eq!(rt; row.as_str(), "#include <incmode>.!", "the steps");
+    Ok(())
+}
+
+#[test]
+fn printed(rt: HostRuntime) -> Result<(), Fail> {
+    let a = rt.alloc();
+    let statement = Statement {
+        line: 1,
+        form: Form::ShowNone,
+    };
+    let mut into = Vec::from_slice(a, b"a. ")?;
+    print(a, &statement, &mut into)?;
+    assert_eq!(rt;
+        into.as_slice(),
+        b"a. #show.".as_slice(),
+        "behind what stands there"
+    );
     Ok(())
 }
