@@ -12,7 +12,7 @@ use Rattle.ms_text.specs.Tokens.{is_word, is_digit, is_lower, is_blank, is_in_li
 use Rattle.ms_grammar.specs.declared.statement.Statement.{Statement}
 use Rattle.ms_grammar.specs.Words.{Word, word_by_kind, words_of}
 use Rattle.ms_grammar.specs.Statements.{pieces_of, before_pieces, in_first, AreStatements}
-use Rattle.ms_ast.specs.Law.{IsName, HaveNames, IsInGrammar}
+use Rattle.ms_ast.specs.Law.{IsName, HaveNames, AreInGrammar}
 use Rattle.ms_ast.proofs.Fronts.{front_by}
 use Rattle.ms_ast.proofs.NameTokens.{name_is, word_bytes-cons}
 
@@ -240,11 +240,6 @@ word_names text kind t ws h k = k
 piece_names : (text : List ℕ) (piece : List Token) → NamesIn text piece → HaveNames (words_of text piece)
 piece_names text [] h = tt
 piece_names text (t ∷ ts) h = word_names text t.kind t (words_of text ts) h.0 (piece_names text ts h.1)
-
--- each is one that the grammar has
-abbrev pub AreInGrammar : List Statement → Type 0
-AreInGrammar [] = Unit {0}
-AreInGrammar (s ∷ ss) = IsInGrammar s.form × AreInGrammar ss
 
 pieces_in_grammar : (text : List ℕ) (pieces : List (List Token)) (statements : List Statement) → EachNamesIn text pieces → AreStatements text pieces statements → AreInGrammar statements
 unfolding AreStatements

@@ -4,6 +4,7 @@ use Rattle.ms_text.specs.declared.token.Token.{Token}
 use Rattle.ms_text.specs.declared.token.TokenKind.TheVariants.{Name}
 use Rattle.ms_text.specs.Tokens.{tokens_of, name_len, name_kind}
 use Rattle.ms_grammar.specs.declared.statement.Form.{Form}
+use Rattle.ms_grammar.specs.declared.statement.Statement.{Statement}
 use Rattle.ms_grammar.specs.Words.{Word, name, words_of}
 use Rattle.ms_grammar.specs.Statements.{Spells, pieces_of}
 
@@ -23,6 +24,11 @@ pub record IsInGrammar (form : Form) : Type 0 where
   pub words : List Word
   pub names : HaveNames words
   pub spells : Spells words form
+
+-- Each is one that the grammar has. The statements that a text reads as are: proofs/FromText.
+abbrev pub AreInGrammar : List Statement → Type 0
+AreInGrammar [] = ⊤
+AreInGrammar (s ∷ ss) = IsInGrammar s.form × AreInGrammar ss
 
 -- The text has tokens, which are one piece, and their words spell the form and no other.
 pub record IsReadAs (text : List ℕ) (form : Form) : Type 0 where

@@ -76,6 +76,7 @@ fn print_inside(term: &TextTerm, into: &mut Vec<u8>) -> Result<(), OutOfMemory>
     }
 }
 
+/// Appends a function, or a tuple where it has no name.
 #[cycle(print)]
 fn print_function(name: &[u8], lists: &[TextTerms], into: &mut Vec<u8>) -> Result<(), OutOfMemory>
     ensures { OnOk result (into.new.items ≡ into.old.items ++ ink_text (function name.now (map (map printed) lists.now)).ink) }

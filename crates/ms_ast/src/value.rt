@@ -21,6 +21,7 @@ pub(crate) fn print_value(value: &Value, into: &mut Vec<u8>) -> Result<(), OutOf
     }
 }
 
+/// Appends a function, or a tuple where it has no name.
 #[cycle(print)]
 fn print_function(name: &[u8], arguments: &[Value], into: &mut Vec<u8>) -> Result<(), OutOfMemory>
     ensures { OnOk result (into.new.items ≡ into.old.items ++ ink_text (function_ink name.now (map value_ink arguments.now))) }
