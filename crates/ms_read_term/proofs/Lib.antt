@@ -2,7 +2,7 @@ mod Numbers
 mod Strings
 mod Closings
 mod Running
-mod Complete
+pub mod Complete
 mod Spelled
 mod Standing
 mod Sound

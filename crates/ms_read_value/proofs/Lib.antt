@@ -3,5 +3,5 @@ mod Numerals
 mod Steps
 mod Complete
 mod Sound
-mod Fronts
+pub mod Fronts
 mod Tokens

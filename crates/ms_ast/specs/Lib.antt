@@ -1,0 +1,5 @@
+pub mod Ink
+pub mod Terms
+pub mod Values
+pub mod Statements
+pub mod Law
