@@ -1,10 +1,7 @@
 -- The definitions at worked examples.
-use Rattle.std.specs.Prelude.{◌≡◌, refl, pos, true, false, [], ◌∷◌, ◌++◌, Some, None, codes}
-use Rattle.ms_text.specs.Tokens.{tokens_of, tokens_from}
-use Rattle.ms_grammar.specs.Words.{words_of, name, number, sign}
-use Rattle.ms_call.specs.declared.command.Command.TheVariants.{Add}
-use Rattle.ms_call.specs.Lines.{ends_text, skipped, is_space}
-use Rattle.ms_call.specs.Items.{lines_in, text_says, command}
+use Rattle.std.specs.Prelude.{◌≡◌, refl, true, false, [], ◌∷◌, ◌++◌, Some, None, codes}
+use Rattle.ms_call.specs.Lines.{ends_text}
+use Rattle.ms_call.specs.Items.{lines_in, text_says}
 
 -- a last line without a line end is a line where the bytes have ended
 to_the_end : lines_in true (codes "a" ++ 10 ∷ 10 ∷ codes "bc") ≡ codes "a" ∷ [] ∷ codes "bc" ∷ []
