@@ -275,32 +275,26 @@ const ROWS: &[Row] = &[
     },
 ];
 
-fn write_number(out: &mut Vec<u8>, number: u64) -> Result<(), Fail> {
-    let mut unit: u64 = 1;
-    while unit <= number / 10 {
-        unit *= 10;
-    }
-    while unit > 0 {
-        out.push(b'0' + (number / unit % 10) as u8)?;
-        unit /= 10;
-    }
+fn write_number(alloc: Global, out: &mut Vec<u8>, number: u64) -> Result<(), Fail> {
+    let text = format!(in alloc; "{number}")?;
+    out.extend_from_slice(text.as_bytes())?;
     Ok(())
 }
 
-fn write_name(out: &mut Vec<u8>, name: &[u8], count: usize) -> Result<(), Fail> {
+fn write_name(alloc: Global, out: &mut Vec<u8>, name: &[u8], count: usize) -> Result<(), Fail> {
     out.extend_from_slice(name)?;
     out.push(b':')?;
-    write_number(out, count as u64)
+    write_number(alloc, out, count as u64)
 }
 
-fn write_atom(out: &mut Vec<u8>, atom: &Value) -> Result<(), Fail> {
+fn write_atom(alloc: Global, out: &mut Vec<u8>, atom: &Value) -> Result<(), Fail> {
     match atom {
-        Value::Function(name, values) => write_name(out, name.as_slice(), values.len()),
+        Value::Function(name, values) => write_name(alloc, out, name.as_slice(), values.len()),
         _ => Err("no atom".into()),
     }
 }
 
-fn write_command(out: &mut Vec<u8>, command: &Command) -> Result<(), Fail> {
+fn write_command(alloc: Global, out: &mut Vec<u8>, command: &Command) -> Result<(), Fail> {
     match command {
         Command::Add { text } => {
             out.extend_from_slice(b"add ")?;
@@ -312,12 +306,12 @@ fn write_command(out: &mut Vec<u8>, command: &Command) -> Result<(), Fail> {
             out.extend_from_slice(b"ground")?;
             for call in calls.as_slice() {
                 out.push(b' ')?;
-                write_name(out, call.name.as_slice(), call.args.len())?;
+                write_name(alloc, out, call.name.as_slice(), call.args.len())?;
             }
         }
         Command::Assign { atom, truth } => {
             out.extend_from_slice(b"assign ")?;
-            write_atom(out, atom)?;
+            write_atom(alloc, out, atom)?;
             out.extend_from_slice(match truth {
                 Truth::True => b" true",
                 Truth::False => b" false",
@@ -326,7 +320,7 @@ fn write_command(out: &mut Vec<u8>, command: &Command) -> Result<(), Fail> {
         }
         Command::Release { atom } => {
             out.extend_from_slice(b"release ")?;
-            write_atom(out, atom)?;
+            write_atom(alloc, out, atom)?;
         }
         Command::Solve {
             count,
@@ -334,13 +328,13 @@ fn write_command(out: &mut Vec<u8>, command: &Command) -> Result<(), Fail> {
             assume,
         } => {
             out.extend_from_slice(b"solve ")?;
-            write_number(out, *count)?;
+            write_number(alloc, out, *count)?;
             out.push(b' ')?;
-            write_number(out, *limit)?;
+            write_number(alloc, out, *limit)?;
             for literal in assume.as_slice() {
                 out.push(b' ')?;
                 out.push(if literal.truth { b'+' } else { b'-' })?;
-                write_atom(out, &literal.atom)?;
+                write_atom(alloc, out, &literal.atom)?;
             }
         }
     }
@@ -349,10 +343,10 @@ fn write_command(out: &mut Vec<u8>, command: &Command) -> Result<(), Fail> {
 }
 
 /// Writes an item, and says whether there was one.
-fn write_fed(out: &mut Vec<u8>, fed: &Fed) -> Result<bool, Fail> {
+fn write_fed(alloc: Global, out: &mut Vec<u8>, fed: &Fed) -> Result<bool, Fail> {
     match fed {
         Fed::Command(command) => {
-            write_command(out, command)?;
+            write_command(alloc, out, command)?;
             Ok(true)
         }
         Fed::BadCommand => {
@@ -370,13 +364,13 @@ fn said(alloc: Global, pieces: &[&[u8]]) -> Result<Vec<u8>, Fail> {
     for piece in pieces {
         lines.feed(piece)?;
         for _ in 0..100 {
-            if !write_fed(&mut out, &lines.next_command(alloc)?)? {
+            if !write_fed(alloc, &mut out, &lines.next_command(alloc)?)? {
                 break;
             }
         }
     }
     for _ in 0..100 {
-        if !write_fed(&mut out, &lines.end(alloc)?)? {
+        if !write_fed(alloc, &mut out, &lines.end(alloc)?)? {
             break;
         }
     }
@@ -418,7 +412,7 @@ fn reads_whole_scripts_byte_by_byte(rt: HostRuntime) -> Result<(), Fail> {
         let script = read_pieces(rt.alloc(), pieces.as_slice())?;
         let mut out = Vec::new(rt.alloc());
         for fed in script.said.as_slice() {
-            write_fed(&mut out, fed)?;
+            write_fed(rt.alloc(), &mut out, fed)?;
         }
         if script.unfinished {
             out.push(b'?')?;
@@ -435,9 +429,10 @@ fn nested(alloc: Global, names: usize) -> Result<Vec<u8>, Fail> {
         script.extend_from_slice(b"g(")?;
     }
     script.push(b'1')?;
-    for _ in 0..names + 1 {
+    for _ in 0..names {
         script.push(b')')?;
     }
+    script.push(b')')?;
     Ok(script)
 }
 
