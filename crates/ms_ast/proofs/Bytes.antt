@@ -8,7 +8,7 @@ use Rattle.ms_text.specs.declared.token.TokenKind.TheVariants.{Dot}
 use Rattle.ms_text.specs.Tokens.{tokens_from, first_token, is_blank, with_token}
 use Rattle.ms_lex.proofs.Steps.{blank_step, token_step}
 use Rattle.ms_grammar.specs.Words.{Word, sign, words_of, word_by_kind}
-use Rattle.ms_grammar.specs.Statements.{pieces_of, before_pieces, in_first}
+use Rattle.ms_grammar.specs.Statements.{pieces_of, before_pieces, in_first, first_line}
 use Rattle.ms_ast.specs.Ink.{Ink, blank, word, ink_words, ink_text, word_text}
 use Rattle.ms_ast.proofs.Apart.{IsToken, IsSentence, dot, gap, token}
 
@@ -55,6 +55,7 @@ pub record IsRead (front : List ℕ) (ink : List Ink) (line : ℕ) : Type 0 wher
   pub are : tokens_from 0 (ink_text ink) (length front) line ≡ Ok tokens
   pub words : words_of (front ++ ink_text ink) tokens ≡ ink_words ink
   pub piece : pieces_of tokens ≡ tokens ∷ []
+  pub begins : first_line tokens ≡ line
 
 read_dot : (front : List ℕ) (line : ℕ) → IsRead front (word (sign Dot) ∷ []) line
 unfolding tokens_from pieces_of
@@ -63,6 +64,7 @@ read_dot front line = record {
   are = refl;
   words = refl;
   piece = refl;
+  begins = refl;
 }
 
 read_gap : (front : List ℕ) (ink : List Ink) (line : ℕ) → IsRead (front ++ 32 ∷ []) ink line → IsRead front (blank ∷ ink) line
@@ -72,6 +74,7 @@ read_gap front ink line r =
       are = blank_step 32 (ink_text ink) (length front) line refl ∙ ap (λ n. tokens_from 0 (ink_text ink) n line) (sym (length-append front (32 ∷ []))) ∙ r.are;
       words = ap (λ text. words_of text r.tokens) (sym (append_assoc front (32 ∷ []) (ink_text ink))) ∙ r.words;
       piece = r.piece;
+      begins = r.begins;
     }
 
 more_piece : (kind : TokenKind) (t : Token) (ts : List Token) → t.kind ≡ kind → ((pieces : List (List Token)) → before_pieces kind t pieces ≡ in_first t pieces) → pieces_of ts ≡ ts ∷ [] → pieces_of (t ∷ ts) ≡ (t ∷ ts) ∷ []
@@ -89,6 +92,7 @@ read_token front w ink line h r =
       words = ap (λ ws. word_by_kind h.kind (front ++ (word_text w ++ ink_text ink)) t ∷ ws) (ap (λ text. words_of text r.tokens) (sym (append_assoc front (word_text w) (ink_text ink))) ∙ r.words)
           ∙ ap (λ v. v ∷ ink_words ink) (h.reads front line);
       piece = more_piece h.kind t r.tokens refl (h.inside t) r.piece;
+      begins = refl;
     }
 
 pub read_sentence : {ink : List Ink} → IsSentence ink → (front : List ℕ) (line : ℕ) → IsRead front ink line

@@ -14,7 +14,7 @@ use Rattle.ms_grammar.specs.Words.{Word, word_by_kind, words_of}
 use Rattle.ms_grammar.specs.Statements.{pieces_of, before_pieces, in_first, AreStatements}
 use Rattle.ms_ast.specs.Law.{IsName, HaveNames, AreInGrammar}
 use Rattle.ms_ast.proofs.Fronts.{front_by}
-use Rattle.ms_ast.proofs.NameTokens.{name_is, word_bytes-cons}
+use Rattle.ms_ast.proofs.NameTokens.{name_is, word_bytes-cons, some_same}
 
 -- the front of a text that is a name
 front_words_by : (b : ℕ) (bs : List ℕ) (t : Bool) → is_word b ≡ t
@@ -27,9 +27,6 @@ front_words : (bs : List ℕ) → length (take_while is_word (take (length (take
 front_words [] = refl
 front_words (b ∷ bs) =
     subst (λ n. length (take_while is_word (take n (b ∷ bs))) ≡ length (take n (b ∷ bs))) (sym (word_bytes-cons b bs (is_word b) refl)) (front_words_by b bs (is_word b) refl (front_words bs))
-
-some_same : (m n : ℕ) → Some m ≡ Some n → m ≡ n
-some_same m n e = cc
 
 front_name_by : (b : ℕ) (bs : List ℕ) (n : ℕ) (o : Option ℕ) → name_len bs ≡ o → ((m : ℕ) → o ≡ Some m → name_len (take m bs) ≡ Some (length (take m bs))) → (underscore lower : Bool) → eqb b 95 ≡ underscore → is_lower b ≡ lower → name_len (b ∷ bs) ≡ Some n → name_len (take n (b ∷ bs)) ≡ Some (length (take n (b ∷ bs)))
 front_name_by b bs n None is rest true lower u l e = let none : None ≡ Some n = sym (ap (option_map suc) is) ∙ sym (name_is b bs true lower u l) ∙ e in cc

@@ -6,6 +6,7 @@ pub mod Fronts
 pub mod Inks
 pub mod Lines
 pub mod LiteralLaw
+pub mod Makers
 pub mod NameTokens
 pub mod Names
 pub mod NumberTokens

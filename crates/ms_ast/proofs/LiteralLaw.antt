@@ -32,6 +32,7 @@ use Rattle.ms_ast.proofs.Lines.{Spelled, OnLine, IsShown, as_whole, in_parens_wo
 use Rattle.ms_ast.proofs.Rows.{TermsShown, ArgumentsShown, ListsShown, ListsMany, one_list_many, more_lists_shown, named_printed, list_inks}
 use Rattle.ms_ast.proofs.TermLaw.{term_shown, terms_shown, lists_shown, arguments_shown}
 use Rattle.ms_ast.proofs.Parts.{IsPrinted, ArePrinted, more_printed, row_printed, separated_printed}
+use Rattle.ms_ast.proofs.Makers.{test_with}
 
 abbrev pub TermIs : Counted TextTerm → Type 0
 TermIs = IsPrinted g.Term TextTerm g.term_words term_spelled term_ink
@@ -125,9 +126,6 @@ negated_is c h = record {
   written = record { derivation = st.negated h.written.derivation; words_are = ap (λ ws. sign Not ∷ ws) h.written.words_are; spells = ap (option_map (with_value Negated)) h.written.spells };
   joins = behind_word_blank (sign Not) not_blank (term_ink c.value) h.joins;
 }
-
-abbrev test_with : Cmp → TextTerm → TextTerm → TextLit
-test_with cmp t u = Test t cmp u
 
 test_is : (cmp : Cmp) (c d : Counted TextTerm) → TermIs c → TermIs d → LiteralIs (beside (test_with cmp) c d)
 test_is cmp c d h k = record {

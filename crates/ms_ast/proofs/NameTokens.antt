@@ -46,7 +46,7 @@ one_less : (o : Option ℕ) (n : ℕ) → option_map suc o ≡ Some (suc n) → 
 one_less None n e = cc
 one_less (Some m) n e = let same : suc m ≡ suc n = cc in ap Some (omega arith)
 
-some_same : (m n : ℕ) → Some m ≡ Some n → m ≡ n
+pub some_same : (m n : ℕ) → Some m ≡ Some n → m ≡ n
 some_same m n e = cc
 
 name_more_by : (b : ℕ) (bs tail : List ℕ) → Free tail → name_len (b ∷ bs) ≡ Some (length (b ∷ bs)) → (name_len bs ≡ Some (length bs) → name_len (bs ++ tail) ≡ Some (length bs)) → (underscore lower : Bool) → eqb b 95 ≡ underscore → is_lower b ≡ lower → name_len (b ∷ (bs ++ tail)) ≡ Some (length (b ∷ bs))

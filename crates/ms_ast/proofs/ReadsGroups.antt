@@ -23,9 +23,10 @@ use Rattle.ms_grammar.specs.Terms as g
 use Rattle.ms_grammar.specs.Statements as st
 use Rattle.ms_grammar.specs.Statements.{Guard, left_words, right_words, guard_spelled, SetPart, set_part_words, set_part_spelled, TuplePart, tuple_part_words, tuple_part_spelled, Choice, choice_words, choice_spelled, set_from, Aggregate, aggregate_words, aggregate_spelled, aggregate_from, function_kind, BodyPart, body_part_words, body_part_spelled, Literal, literal_words, literal_spelled, atom_words, atom_spelled, bounded, term_spelled, cmp_of, alone, beside, join, row_of, with_value}
 use Rattle.ms_read_term.specs.Machine.{run, at_start}
-use Rattle.ms_ast.proofs.Somes.{map_some}
-use Rattle.ms_ast.proofs.WordReader.{Found, mapped, after, or_else, bounded_found, read_term, read_some, read_any, is_semicolon, guard_with, test_with, left_by, left_behind, left_from, read_left, right_by, right_from, read_right, set_pair, agg_pair, choice_close, choice_open, read_choice, agg_close, agg_open, group_open, read_group, part_literal, part_else, read_part, read_set_part, read_tuple_part}
-use Rattle.ms_ast.proofs.ReadsParts.{weaker_by, part_ends_term, kind_is_no_cmp, cmp_ends_term, cmp_begins_none, end_begins_none, TermRuns, term_runs, term_reads, bounded_found_is, AtomRuns, atom_runs, LiteralRead, literal_reads, separated_reads, any_from_some, ElementEnd, next_element, last_element, set_part_reads, tuple_part_reads}
+use Rattle.ms_ast.proofs.Somes.{map_some, weaker}
+use Rattle.ms_ast.proofs.WordReader.{Found, mapped, after, or_else, bounded_found, read_term, read_some, read_any, is_semicolon, left_by, left_behind, left_from, read_left, right_by, right_from, read_right, choice_close, choice_open, read_choice, agg_close, agg_open, group_open, read_group, part_literal, part_else, read_part, read_set_part, read_tuple_part}
+use Rattle.ms_ast.proofs.ReadsParts.{part_ends_term, kind_is_no_cmp, cmp_ends_term, cmp_begins_none, end_begins_none, TermRuns, term_runs, term_reads, bounded_found_is, AtomRuns, atom_runs, LiteralRead, literal_reads, separated_reads, any_from_some, ElementEnd, next_element, last_element, set_part_reads, tuple_part_reads}
+use Rattle.ms_ast.proofs.Makers.{guard_with, test_with, set_pair, agg_pair}
 
 -- what stands behind a guard on the left
 pub data BraceNext : List Word → Type 0 where
@@ -111,7 +112,7 @@ set_parts_read : (es : List SetPart) (ws : List Word) → IfSome (row_of set_par
 set_parts_read [] ws = refl
 set_parts_read (e ∷ es) ws =
     let all : List Word = separated (sign Semicolon) (map set_part_words (e ∷ es)) ++ sign RightBrace ∷ ws in
-    weaker_by (row_of set_part_spelled (e ∷ es)) (λ c. read_some read_set_part is_semicolon all ≡ Some (c, sign RightBrace ∷ ws)) (λ c. read_any read_set_part is_semicolon all ≡ Some (c, sign RightBrace ∷ ws))
+    weaker (row_of set_part_spelled (e ∷ es)) (λ c. read_some read_set_part is_semicolon all ≡ Some (c, sign RightBrace ∷ ws)) (λ c. read_any read_set_part is_semicolon all ≡ Some (c, sign RightBrace ∷ ws))
     (λ c h. any_from_some (read_some read_set_part is_semicolon all) (Some (alone [], all)) c (sign RightBrace ∷ ws) h)
     (separated_reads set_part_words set_part_spelled read_set_part is_semicolon ElementEnd set_part_reads semicolon_ends Semicolon refl e es (sign RightBrace ∷ ws) last_element refl)
 
@@ -119,7 +120,7 @@ tuple_parts_read : (es : List TuplePart) (ws : List Word) → IfSome (row_of tup
 tuple_parts_read [] ws = refl
 tuple_parts_read (e ∷ es) ws =
     let all : List Word = separated (sign Semicolon) (map tuple_part_words (e ∷ es)) ++ sign RightBrace ∷ ws in
-    weaker_by (row_of tuple_part_spelled (e ∷ es)) (λ c. read_some read_tuple_part is_semicolon all ≡ Some (c, sign RightBrace ∷ ws)) (λ c. read_any read_tuple_part is_semicolon all ≡ Some (c, sign RightBrace ∷ ws))
+    weaker (row_of tuple_part_spelled (e ∷ es)) (λ c. read_some read_tuple_part is_semicolon all ≡ Some (c, sign RightBrace ∷ ws)) (λ c. read_any read_tuple_part is_semicolon all ≡ Some (c, sign RightBrace ∷ ws))
     (λ c h. any_from_some (read_some read_tuple_part is_semicolon all) (Some (alone [], all)) c (sign RightBrace ∷ ws) h)
     (separated_reads tuple_part_words tuple_part_spelled read_tuple_part is_semicolon ElementEnd tuple_part_reads semicolon_ends Semicolon refl e es (sign RightBrace ∷ ws) last_element refl)
 

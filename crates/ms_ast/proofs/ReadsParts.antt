@@ -16,17 +16,14 @@ use Rattle.ms_grammar.specs.Statements as st
 use Rattle.ms_grammar.specs.Statements.{Atom, atom_words, atom_spelled, as_atom, bounded, term_spelled, Literal, literal_words, literal_spelled, Conditions, conditions_words, conditions_spelled, SetPart, set_part_words, set_part_spelled, TuplePart, tuple_part_words, tuple_part_spelled, cmp_of, alone, as_element, beside, join, row_of, with_value}
 use Rattle.ms_read_term.specs.Machine.{run, at_start}
 use Rattle.ms_read_term.proofs.Complete.{complete}
-use Rattle.ms_ast.proofs.Somes.{both_some, then_some, map_some}
-use Rattle.ms_ast.proofs.WordReader.{Found, mapped, after, or_else, read_atom, bounded_found, read_term, test_with, literal_by, literal_behind, literal_from, read_literal, row_behind, read_row, read_some, is_comma, read_conditions, set_element, agg_element, read_set_part, read_tuple_part}
+use Rattle.ms_ast.proofs.Somes.{both_some, then_some, map_some, weaker}
+use Rattle.ms_ast.proofs.WordReader.{Found, mapped, after, or_else, read_atom, bounded_found, read_term, literal_by, literal_behind, literal_from, read_literal, row_behind, read_row, read_some, is_comma, read_conditions, read_set_part, read_tuple_part}
+use Rattle.ms_ast.proofs.Makers.{test_with, set_element, agg_element}
 
 -- what is found satisfies what is known of each thing that may be found
 pub found_is : {A : Type 0} (o : Option A) (P : A → Type 0) → ((x : A) → o ≡ Some x → P x) → IfSome o P
 found_is None P h = tt
 found_is (Some x) P h = h x refl
-
-pub weaker_by : {A : Type 0} (o : Option A) (P Q : A → Type 0) → ((x : A) → P x → Q x) → IfSome o P → IfSome o Q
-weaker_by None P Q h p = tt
-weaker_by (Some x) P Q h p = h x p
 
 -- what ends a part ends a term, and is free comparison
 pub kind_ends_term : (kind : TokenKind) → ends_part kind ≡ true → carries_on kind ≡ false
@@ -113,7 +110,7 @@ pub term_read : (ws rest : List Word) (c : Counted TextTerm) → TermRuns ws res
 term_read ws rest c h = ap (λ o. after o bounded_found) h.runs ∙ bounded_found_is h.part c rest h.bounded_is
 
 pub term_reads : (t : g.Term) (rest : List Word) → EndsTerm rest → IfSome (term_spelled t) (λ c. read_term (g.term_words t ++ rest) ≡ Some (c, rest))
-term_reads t rest ends = weaker_by (term_spelled t) (TermRuns (g.term_words t) rest) (λ c. read_term (g.term_words t ++ rest) ≡ Some (c, rest)) (λ c h. term_read (g.term_words t) rest c h) (term_runs t rest ends)
+term_reads t rest ends = weaker (term_spelled t) (TermRuns (g.term_words t) rest) (λ c. read_term (g.term_words t ++ rest) ≡ Some (c, rest)) (λ c h. term_read (g.term_words t) rest c h) (term_runs t rest ends)
 
 -- atoms
 pub record AtomRuns (ws rest : List Word) (c : Counted TextTerm) : Type 0 where
@@ -292,7 +289,7 @@ conditions_read : (c : Conditions) (rest : List Word) → ElementEnd rest → If
 conditions_read st.no_colon rest e = no_colon_read e
 conditions_read (st.colon []) rest e = colon_read e
 conditions_read (st.colon (l ∷ ls)) rest e =
-    weaker_by (row_of literal_spelled (l ∷ ls)) (λ c. read_some read_literal is_comma (separated (sign Comma) (map literal_words (l ∷ ls)) ++ rest) ≡ Some (c, rest)) (ConditionsRead (conditions_words (st.colon (l ∷ ls))) rest)
+    weaker (row_of literal_spelled (l ∷ ls)) (λ c. read_some read_literal is_comma (separated (sign Comma) (map literal_words (l ∷ ls)) ++ rest) ≡ Some (c, rest)) (ConditionsRead (conditions_words (st.colon (l ∷ ls))) rest)
     (λ c h. any_from_some (read_some read_literal is_comma (separated (sign Comma) (map literal_words (l ∷ ls)) ++ rest)) (Some (alone [], separated (sign Comma) (map literal_words (l ∷ ls)) ++ rest)) c rest h)
     (separated_reads literal_words literal_spelled read_literal is_comma EndsPart literal_reads comma_ends Comma refl l ls rest (element_ends_part e) (element_no_comma e))
 

@@ -17,10 +17,11 @@ use Rattle.ms_grammar.specs.Values.{Spelling, value_words, value_part}
 use Rattle.ms_grammar.specs.Statements as st
 use Rattle.ms_grammar.specs.Statements.{BodyPart, body_part_words, body_part_spelled, Body, body_words, body_spelled, more_words, separator, HeadPart, head_words, Tail, tail_words, tail_spelled, rule_spelled, Parameters, parameters_words, parameter_names, Sentence, sentence_words, sentence_spelled, atom_words, atom_spelled, choice_words, choice_spelled, alone, beside, join, row_of, with_value}
 use Rattle.ms_read_value.proofs.Fronts.{is_read}
-use Rattle.ms_ast.proofs.Somes.{map_some, kept}
-use Rattle.ms_ast.proofs.WordReader.{mapped, or_else, read_atom, read_some, read_any, is_separator, read_part, read_choice, read_tail, rule_of, rule_with, rule_from, read_rule, names_of, value_of, read_directive, rule_or, read_statement}
-use Rattle.ms_ast.proofs.ReadsParts.{found_is, weaker_by, part_ends_term, AtomRuns, atom_runs, atom_read, AllSeparate, more_words_of, some_reads, any_from_some}
+use Rattle.ms_ast.proofs.Somes.{map_some, kept, weaker}
+use Rattle.ms_ast.proofs.WordReader.{mapped, or_else, read_atom, read_some, read_any, is_separator, read_part, read_choice, read_tail, rule_with, rule_from, read_rule, names_of, value_of, read_directive, rule_or, read_statement}
+use Rattle.ms_ast.proofs.ReadsParts.{found_is, part_ends_term, AtomRuns, atom_runs, atom_read, AllSeparate, more_words_of, some_reads, any_from_some}
 use Rattle.ms_ast.proofs.ReadsGroups.{part_reads, choice_reads, atom_is_no_choice}
+use Rattle.ms_ast.proofs.Makers.{rule_of}
 
 abbrev dot : List Word
 dot = sign Dot ∷ []
@@ -67,7 +68,7 @@ tail_reads : (t : Tail) → IfSome (tail_spelled t) (λ c. read_tail (tail_words
 tail_reads st.no_tail = refl
 tail_reads st.empty_tail = refl
 tail_reads (st.tail b) =
-    weaker_by (body_spelled b) (λ c. read_some read_part is_separator (body_words b ++ dot) ≡ Some (c, dot)) (λ c. read_any read_part is_separator (body_words b ++ dot) ≡ Some (c, dot))
+    weaker (body_spelled b) (λ c. read_some read_part is_separator (body_words b ++ dot) ≡ Some (c, dot)) (λ c. read_any read_part is_separator (body_words b ++ dot) ≡ Some (c, dot))
     (λ c h. any_from_some (read_some read_part is_separator (body_words b ++ dot)) (Some (alone [], body_words b ++ dot)) c dot h) (body_reads b)
 
 tail_ends : (t : Tail) → EndsPart (tail_words t ++ dot)

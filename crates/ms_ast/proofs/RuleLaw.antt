@@ -29,6 +29,7 @@ use Rattle.ms_ast.proofs.Lines.{Spelled}
 use Rattle.ms_ast.proofs.Parts.{IsPrinted, ArePrinted, more_printed, row_printed, separated_printed}
 use Rattle.ms_ast.proofs.LiteralLaw.{AtomIs, atom_is, LiteralIs, literal_is, apart_joins}
 use Rattle.ms_ast.proofs.SetLaw.{ChoiceIs, choice_is, AggregateIs, aggregate_is}
+use Rattle.ms_ast.proofs.Makers.{rule_of}
 
 -- parts of bodies
 abbrev PartIs : Counted BodyLit → Type 0
@@ -160,9 +161,6 @@ pub record RuleIs (c : Counted Form) : Type 0 where
   pub words_are : head_words head ++ tail_words tail ≡ ink_words (form_ink c.value)
   pub spells : rule_spelled head tail ≡ Some c
   pub joins : Joins (form_ink c.value)
-
-abbrev rule_of : HeadForm → List BodyLit → Form
-rule_of h b = Rule h b
 
 atom_rule : (c : Counted TextTerm) (d : Counted (List BodyLit)) → AtomIs c → TailIs d → RuleIs (beside rule_of (with_value HeadAtom c) d)
 atom_rule c d h t = record {

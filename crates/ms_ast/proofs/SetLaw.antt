@@ -30,6 +30,7 @@ use Rattle.ms_ast.proofs.Signs.{left_brace_sign, right_brace_sign, cmp_blank, co
 use Rattle.ms_ast.proofs.Operations.{joins_between}
 use Rattle.ms_ast.proofs.Parts.{IsPrinted, ArePrinted, more_printed, row_printed, separated_printed}
 use Rattle.ms_ast.proofs.LiteralLaw.{TermIs, term_is, AtomIs, atom_is, ConditionsAre, conditions_are, cmp_back, apart_joins}
+use Rattle.ms_ast.proofs.Makers.{set_element, agg_element, guard_with, set_pair, agg_pair}
 
 -- guards, on both sides
 pub record GuardIs (c : Counted (Option TextGuard)) : Type 0 where
@@ -40,9 +41,6 @@ pub record GuardIs (c : Counted (Option TextGuard)) : Type 0 where
   pub left_joins : Joins (left_ink c.value)
   pub right_joins : Joins (right_ink c.value)
   pub right_starts : Starts (right_ink c.value)
-
-abbrev guard_with : Cmp → TextTerm → Option TextGuard
-guard_with cmp t = Some (record { cmp = cmp; bound = t })
 
 no_guard : GuardIs (alone None)
 no_guard = record { derivation = None; left_are = refl; right_are = refl; spells = refl; left_joins = nothing_joins; right_joins = nothing_joins; right_starts = nothing_starts }
@@ -86,9 +84,6 @@ guard_is (Some (st.signed t kind)) n = signed_some (cmp_of kind) (term_spelled t
 abbrev pub SetPartIs : Counted SetElement → Type 0
 SetPartIs = IsPrinted SetPart SetElement set_part_words set_part_spelled set_element_ink
 
-abbrev set_element : TextTerm → List TextLit → SetElement
-set_element a conds = record { atom = a; conds = conds }
-
 set_part_printed : (c : Counted TextTerm) (d : Counted (List TextLit)) → AtomIs c → ConditionsAre d → SetPartIs (as_element (beside set_element c d))
 set_part_printed c d h k = record {
   written = record {
@@ -116,9 +111,6 @@ TuplePartIs = IsPrinted TuplePart AggElement tuple_part_words tuple_part_spelled
 
 abbrev TermsAre : Counted (List TextTerm) → Type 0
 TermsAre = ArePrinted g.Term TextTerm g.term_words term_spelled term_ink
-
-abbrev agg_element : List TextTerm → List TextLit → AggElement
-agg_element tuple conds = record { tuple = tuple; conds = conds }
 
 abbrev cons_terms : TextTerm → List TextTerm → List TextTerm
 cons_terms x xs = x ∷ xs
@@ -173,9 +165,6 @@ ChoiceIs = IsPrinted Choice TextSet choice_words choice_spelled set_ink
 abbrev SetPartsAre : Counted (List SetElement) → Type 0
 SetPartsAre = ArePrinted SetPart SetElement set_part_words set_part_spelled set_element_ink
 
-abbrev set_pair : List SetElement → Option TextGuard → List SetElement × Option TextGuard
-set_pair elements right = (elements, right)
-
 choice_printed : (l : Counted (Option TextGuard)) (es : Counted (List SetElement)) (r : Counted (Option TextGuard)) → GuardIs l → SetPartsAre es → GuardIs r → ChoiceIs (beside set_from l (beside set_pair es r))
 choice_printed l es r hl hes hr =
     let inks : List (List Ink) = map set_element_ink es.value in
@@ -221,9 +210,6 @@ AggregateIs = IsPrinted Aggregate TextAgg aggregate_words aggregate_spelled agg_
 
 abbrev TuplePartsAre : Counted (List AggElement) → Type 0
 TuplePartsAre = ArePrinted TuplePart AggElement tuple_part_words tuple_part_spelled agg_element_ink
-
-abbrev agg_pair : List AggElement → Option TextGuard → List AggElement × Option TextGuard
-agg_pair elements right = (elements, right)
 
 function_brace : (of : AggFn) (tail : List ℕ) → IsToken (sign (function_kind of)) (123 ∷ tail)
 function_brace Count = count_brace

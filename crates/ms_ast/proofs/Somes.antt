@@ -24,6 +24,6 @@ module _ {A : Type 0} where
   kept R true x h = h refl refl
   kept R false x h = tt
 
-  pub weaker : (P R : A → Type 0) → ((x : A) → P x → R x) → (a : Option A) → IfSome a P → IfSome a R
-  weaker P R h None p = tt
-  weaker P R h (Some x) p = h x p
+  pub weaker : (a : Option A) (P R : A → Type 0) → ((x : A) → P x → R x) → IfSome a P → IfSome a R
+  weaker None P R h p = tt
+  weaker (Some x) P R h p = h x p

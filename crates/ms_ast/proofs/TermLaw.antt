@@ -97,13 +97,13 @@ mutual
 
   pub arguments_shown : (a : g.Arguments) → HaveNames (g.arguments_words a) → IfSome (g.arguments_row a) ArgumentsShown
   arguments_shown g.no_arguments n = no_arguments_shown
-  arguments_shown (g.arguments ts) n = weaker TermsShown ArgumentsShown arguments_are_shown (g.terms_row ts) (terms_shown ts n)
+  arguments_shown (g.arguments ts) n = weaker (g.terms_row ts) TermsShown ArgumentsShown arguments_are_shown (terms_shown ts n)
 
   pub terms_shown : (ts : g.Terms) → HaveNames (g.terms_words ts) → IfSome (g.terms_row ts) TermsShown
   terms_shown (g.one_term t) n = map_some (g.with_term g.no_terms) IsShown TermsShown one_term_shown (g.term_part t) (term_shown t n)
   terms_shown (g.and_term ts t) n =
       let ns = names_split (g.terms_words ts) (sign Comma ∷ g.term_words t) n in
-      weaker TermsMany TermsShown (λ row h. h.shown) (g.terms_row (g.and_term ts t)) (many_terms (g.terms_row ts) (g.term_part t) (terms_shown ts ns.0) (term_shown t ns.1))
+      weaker (g.terms_row (g.and_term ts t)) TermsMany TermsShown (λ row h. h.shown) (many_terms (g.terms_row ts) (g.term_part t) (terms_shown ts ns.0) (term_shown t ns.1))
 
   tuples_shown : (ts : g.Tuples) → HaveNames (g.tuples_words ts) → IfSome (g.tuples_row ts) TuplesShown
   tuples_shown (g.one_tuple t) n = map_some (g.with_alternative g.no_alternative) IsShown TuplesShown one_tuple_shown (g.tuple_part t) (tuple_shown t n)

@@ -248,4 +248,4 @@ mutual
   values_shown (one_value v) ns = map_some (with_value no_values) ValueShown ValuesShown one_value_shown (value_part v) (value_shown v ns)
   values_shown (and_value vs v) ns =
       let ks = names_split (values_words vs) (sign Comma ∷ value_words v) ns in
-      weaker ValuesMany ValuesShown (λ row h. h.shown) (values_row (and_value vs v)) (many_values (values_row vs) (value_part v) (values_shown vs ks.0) (value_shown v ks.1))
+      weaker (values_row (and_value vs v)) ValuesMany ValuesShown (λ row h. h.shown) (many_values (values_row vs) (value_part v) (values_shown vs ks.0) (value_shown v ks.1))

@@ -26,6 +26,7 @@ use Rattle.ms_grammar.specs.Words.{Word, name, number, sign}
 use Rattle.ms_grammar.specs.Statements.{as_atom, bounded, cmp_of, alone, beside, with_value, as_element, set_from, aggregate_from}
 use Rattle.ms_read_term.specs.Machine.{run, at_start}
 use Rattle.ms_read_value.specs.Front.{counted}
+use Rattle.ms_ast.proofs.Makers.{test_with, set_element, agg_element, guard_with, set_pair, agg_pair, rule_of}
 
 -- what is found at the front, with the words behind it
 abbrev pub Found : Type 0 → Type 0
@@ -54,9 +55,6 @@ abbrev pub read_term : List Word → Found (Counted TextTerm)
 read_term ws = after (run at_start ws) bounded_found
 
 -- literals
-abbrev pub test_with : Cmp → TextTerm → TextTerm → TextLit
-test_with cmp t u = Test t cmp u
-
 abbrev pub literal_by : Option Cmp → Part → List Word → List Word → Found (Counted TextLit)
 literal_by None p all ws = Some (with_value Positive (as_atom p), all)
 literal_by (Some cmp) p all ws = after (bounded_found p ws) (λ c rest. mapped (beside (test_with cmp) c) (read_term rest))
@@ -111,12 +109,6 @@ abbrev pub read_conditions : List Word → Found (Counted (List TextLit))
 read_conditions (sign Colon ∷ ws) = read_any read_literal is_comma ws
 read_conditions ws = Some (alone [], ws)
 
-abbrev pub set_element : TextTerm → List TextLit → SetElement
-set_element a conds = record { atom = a; conds = conds }
-
-abbrev pub agg_element : List TextTerm → List TextLit → AggElement
-agg_element tuple conds = record { tuple = tuple; conds = conds }
-
 abbrev pub read_set_part : List Word → Found (Counted SetElement)
 read_set_part ws = after (read_atom ws) (λ a rest. mapped (λ conds. as_element (beside set_element a conds)) (read_conditions rest))
 
@@ -124,9 +116,6 @@ abbrev pub read_tuple_part : List Word → Found (Counted AggElement)
 read_tuple_part ws = after (read_some read_term is_comma ws) (λ ts rest. mapped (λ conds. as_element (beside agg_element ts conds)) (read_conditions rest))
 
 -- guards
-abbrev pub guard_with : Cmp → TextTerm → Option TextGuard
-guard_with cmp t = Some (record { cmp = cmp; bound = t })
-
 abbrev pub left_by : Option Cmp → Part → List Word → List Word → Found (Counted (Option TextGuard))
 left_by None p all ws = mapped (with_value (guard_with Le)) (bounded_found p all)
 left_by (Some cmp) p all ws = mapped (with_value (guard_with cmp)) (bounded_found p ws)
@@ -158,12 +147,6 @@ abbrev pub read_right : List Word → Found (Counted (Option TextGuard))
 read_right ws = right_from (run at_start ws) ws
 
 -- sets and aggregates
-abbrev pub set_pair : List SetElement → Option TextGuard → List SetElement × Option TextGuard
-set_pair elements right = (elements, right)
-
-abbrev pub agg_pair : List AggElement → Option TextGuard → List AggElement × Option TextGuard
-agg_pair elements right = (elements, right)
-
 abbrev pub choice_close : Counted (Option TextGuard) → Counted (List SetElement) → List Word → Found (Counted TextSet)
 choice_close l es (sign RightBrace ∷ ws) = mapped (λ r. beside set_from l (beside set_pair es r)) (read_right ws)
 choice_close l es ws = None
@@ -210,9 +193,6 @@ read_head ws = or_else (mapped (with_value HeadSet) (read_choice ws)) (or_else (
 abbrev pub read_tail : List Word → Found (Counted (List BodyLit))
 read_tail (sign If ∷ ws) = read_any read_part is_separator ws
 read_tail ws = Some (alone [], ws)
-
-abbrev pub rule_of : Head → List BodyLit → Form
-rule_of h b = Rule h b
 
 abbrev pub rule_end : Counted Form → List Word → Option (Counted Form)
 rule_end c (sign Dot ∷ ws) = Some c

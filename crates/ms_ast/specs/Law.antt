@@ -6,7 +6,7 @@ use Rattle.ms_text.specs.Tokens.{tokens_of, name_len, name_kind}
 use Rattle.ms_grammar.specs.declared.statement.Form.{Form}
 use Rattle.ms_grammar.specs.declared.statement.Statement.{Statement}
 use Rattle.ms_grammar.specs.Words.{Word, name, words_of}
-use Rattle.ms_grammar.specs.Statements.{Spells, pieces_of}
+use Rattle.ms_grammar.specs.Statements.{Spells, pieces_of, first_line}
 
 -- the bytes are a name other than `not`
 pub record IsName (f : List ℕ) : Type 0 where
@@ -30,10 +30,11 @@ abbrev pub AreInGrammar : List Statement → Type 0
 AreInGrammar [] = ⊤
 AreInGrammar (s ∷ ss) = IsInGrammar s.form × AreInGrammar ss
 
--- The text has tokens, which are one piece, and their words spell the form and no other.
+-- The text has tokens, which are one piece from the first line on, and their words spell the form and no other.
 pub record IsReadAs (text : List ℕ) (form : Form) : Type 0 where
   pub tokens : List Token
   pub has_tokens : tokens_of text ≡ Ok tokens
   pub one_piece : pieces_of tokens ≡ tokens ∷ []
+  pub begins : first_line tokens ≡ 1
   pub spells : Spells (words_of text tokens) form
   pub only : (other : Form) → Spells (words_of text tokens) other → other ≡ form
