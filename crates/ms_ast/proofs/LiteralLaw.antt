@@ -7,7 +7,7 @@ use Rattle.ms_grammar.specs.declared.term.TextTerm.{TextTerm, Function}
 use Rattle.ms_grammar.specs.declared.statement.Cmp.{Cmp}
 use Rattle.ms_grammar.specs.declared.statement.Cmp.TheVariants.{Eq, Ne, Lt, Le, Gt, Ge}
 use Rattle.ms_grammar.specs.declared.statement.TextLit.{TextLit}
-use Rattle.ms_grammar.specs.declared.statement.TextLit.TheVariants.{Positive, Negated, Test}
+use Rattle.ms_grammar.specs.declared.statement.TextLit.TheVariants.{Positive, Negated}
 use Rattle.ms_grammar.specs.declared.part.Part.{Part}
 use Rattle.ms_grammar.specs.declared.part.Rows.{Rows}
 use Rattle.ms_grammar.specs.declared.part.Counted.{Counted}

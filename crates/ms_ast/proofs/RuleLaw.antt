@@ -6,12 +6,10 @@ use Rattle.ms_grammar.specs.declared.term.TextTerm.{TextTerm}
 use Rattle.ms_grammar.specs.declared.statement.TextLit.{TextLit}
 use Rattle.ms_grammar.specs.declared.statement.TextSet.{TextSet}
 use Rattle.ms_grammar.specs.declared.statement.TextAgg.{TextAgg}
-use Rattle.ms_grammar.specs.declared.statement.Head.{Head as HeadForm}
 use Rattle.ms_grammar.specs.declared.statement.Head.TheVariants.{Empty, Atom as HeadAtom, Set as HeadSet}
 use Rattle.ms_grammar.specs.declared.statement.BodyLit.{BodyLit}
 use Rattle.ms_grammar.specs.declared.statement.BodyLit.TheVariants.{Lit, Set as BodySet, Agg as BodyAgg}
 use Rattle.ms_grammar.specs.declared.statement.Form.{Form}
-use Rattle.ms_grammar.specs.declared.statement.Form.TheVariants.{Rule}
 use Rattle.ms_grammar.specs.declared.part.Counted.{Counted}
 use Rattle.ms_grammar.specs.Words.{Word, sign, separated}
 use Rattle.ms_grammar.specs.Statements as st

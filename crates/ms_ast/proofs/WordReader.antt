@@ -8,7 +8,7 @@ use Rattle.ms_grammar.specs.declared.statement.Cmp.TheVariants.{Le}
 use Rattle.ms_grammar.specs.declared.statement.AggFn.{AggFn}
 use Rattle.ms_grammar.specs.declared.statement.AggFn.TheVariants.{Count as count, Sum as sum}
 use Rattle.ms_grammar.specs.declared.statement.TextLit.{TextLit}
-use Rattle.ms_grammar.specs.declared.statement.TextLit.TheVariants.{Positive, Negated, Test}
+use Rattle.ms_grammar.specs.declared.statement.TextLit.TheVariants.{Positive, Negated}
 use Rattle.ms_grammar.specs.declared.statement.TextGuard.{TextGuard}
 use Rattle.ms_grammar.specs.declared.statement.SetElement.{SetElement}
 use Rattle.ms_grammar.specs.declared.statement.TextSet.{TextSet}
@@ -19,7 +19,7 @@ use Rattle.ms_grammar.specs.declared.statement.Head.TheVariants.{Empty, Atom as 
 use Rattle.ms_grammar.specs.declared.statement.BodyLit.{BodyLit}
 use Rattle.ms_grammar.specs.declared.statement.BodyLit.TheVariants.{Lit, Set as BodySet, Agg as BodyAgg}
 use Rattle.ms_grammar.specs.declared.statement.Form.{Form}
-use Rattle.ms_grammar.specs.declared.statement.Form.TheVariants.{Rule, Program as ProgramForm, External as ExternalForm, Const as ConstForm, Show as ShowForm, ShowNone, IncludeIncmode}
+use Rattle.ms_grammar.specs.declared.statement.Form.TheVariants.{Program as ProgramForm, External as ExternalForm, Const as ConstForm, Show as ShowForm, ShowNone, IncludeIncmode}
 use Rattle.ms_grammar.specs.declared.part.Part.{Part}
 use Rattle.ms_grammar.specs.declared.part.Counted.{Counted}
 use Rattle.ms_grammar.specs.Words.{Word, name, number, sign}
