@@ -4,3 +4,4 @@ pub mod Resolved
 pub mod Learning
 pub mod Stages
 pub mod Points
+pub mod Reasoned

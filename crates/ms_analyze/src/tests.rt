@@ -1,4 +1,4 @@
-ghost use Rattle.std.specs.Prelude.{◌≡◌, ◌≢◌, ◌<◌, ◌≤◌, [], All, AllPairs, IfOk, IfSome, IsTrue};
+ghost use Rattle.std.specs.Prelude.{◌≡◌, ◌≢◌, ◌<◌, ◌≤◌, [], All, AllPairs, IfOk, IfSome, IsTrue, false, true};
 ghost use Rattle.ms_lits.specs.declared.lit.Lit.{Lit};
 ghost use Rattle.ms_nogood.specs.Propagation.{IsWholeAt, IsWithin};
 ghost use Rattle.ms_analyze.specs.Analysis.{AreReasoned, HasLevel, IsOnlyDecision};
@@ -47,6 +47,8 @@ fn decide(lit: Lit, trail: &mut Trail, store: &Nogoods) -> Option<usize>
     if lit.var >= trail.room() || trail.level() >= trail.room() || trail.value(lit.var).is_some() {
         return None;
     }
+    // Tells that the entries are an assignment.
+    let _before = trail.len();
     trail.push_level();
     trail.assign(lit, None);
     match store.scan(trail) {

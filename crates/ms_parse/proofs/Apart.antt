@@ -1,13 +1,12 @@
 -- Names that were seen, and whether they differ.
-use Rattle.std.proofs.Common.{◌≡◌, ◌≢◌, ℕ, ◌+◌, ◌<◌, ◌≤◌, Bool, true, false, cond, List, [], ◌∷◌, ◌++◌, length, take, get_or, refl, sym, ap, ◌∙◌, inl, inr, ◌⊎◌, subst, AllPairs, Decides, arith}
+use Rattle.std.proofs.Common.{◌≡◌, ◌≢◌, ℕ, ◌+◌, ◌<◌, ◌≤◌, Bool, true, false, cond, List, [], ◌∷◌, ◌++◌, length, take, get_or, refl, sym, ap, ◌∙◌, inl, inr, ◌⊎◌, subst, AllPairs, Decides, Ordering, arith}
 use Rattle.std.specs.List.{Contains}
 use Rattle.std.specs.Ordering.{nat_cmp, eq_by_cmp}
 use Rattle.std.specs.Cmp.Lexicographic.{slice_cmp}
-use Rattle.std.specs.BTreeSet.{contains, Updates}
-use Rattle.std.specs.Layout.BTreeSet.{BTreeSet}
+use Rattle.std.specs.BTreeSet.{BTreeSet, contains, Updates}
 use Rattle.std.proofs.lemmas.Bool.{cases_Bool}
-use Rattle.std.proofs.lemmas.List.{take_more, take_all, length-take}
-use Rattle.std.proofs.lemmas.List.Elements.{Contains-append_left, Contains-push, Contains-push_cases}
+use Rattle.std.proofs.lemmas.List.{take_more, take_all, length-take, get_or-take, get_or_default}
+use Rattle.std.proofs.lemmas.List.Elements.{Contains-get_or, Contains-append_left, Contains-push, Contains-push_cases}
 use Rattle.std.proofs.lemmas.List.Quantifiers.{all_pairs_push}
 use Rattle.std.proofs.lemmas.Cmp.{nat_list_cmp_total, eq_by_cmp_equiv}
 use Rattle.std.proofs.lemmas.Map.Lookups.{exact_bytes}
@@ -30,7 +29,7 @@ pub record AreSeen (seen : BTreeSet (List ℕ)) (names : List (List ℕ)) : Type
 
 pub none_seen : (seen : BTreeSet (List ℕ)) → seen.keys ≡ [] → AreSeen seen []
 none_seen seen e = record {
-  among = λ q h. absurd (let f : ⊥ = ? in f);
+  among = λ q h. absurd (let t = rw e at h in let f : ⊥ = cc in f);
   all = λ q h. absurd (omega arith);
   differ = λ i j d lt within. absurd (omega arith);
 }
@@ -46,10 +45,13 @@ module _ (seen after : BTreeSet (List ℕ)) (names : List (List ℕ)) (key : Lis
 
   all_more : (q : List ℕ) → Contains names q ⊎ (key ≡ q) → has after q ≡ true
   all_more q (inl w) = all_by_test q _ refl w
-  all_more q (inr e) = rw (updates.0 q, ← e, (eq_by_cmp_equiv nat_list_cmp_total).reflexive key) refl
+  all_more q (inr e) = rw (updates.0 q, ← e, (eq_by_cmp_equiv nat_list_cmp_total).refl key) refl
 
   not_among : (k : ℕ) (d : List ℕ) → k < length names → get_or names k d ≡ key → ⊥
-  not_among k d within e = ?
+  not_among k d within e =
+      let there : Contains names key = subst (λ (x : List ℕ). Contains names x) e (Contains-get_or names k d within) in
+      let old : has seen key ≡ true = h.all key there in
+      let f : ⊥ = cc in f
 
   seen_more : AreSeen after (names ++ key ∷ [])
   seen_more = record {
@@ -57,3 +59,25 @@ module _ (seen after : BTreeSet (List ℕ)) (names : List (List ℕ)) (key : Lis
     all = λ q w. all_more q (Contains-push_cases names key q w);
     differ = all_pairs_push (λ p q. p ≢ q) names key h.differ (λ k d within. not_among k d within);
   }
+
+module _ (names : List (List ℕ)) (i : ℕ) (inside : i < length names) (key d : List ℕ) (is : key ≡ get_or names i d) (seen : BTreeSet (List ℕ)) (h : AreSeen seen (take i names)) where
+  up_to_more : take (i + 1) names ≡ take i names ++ key ∷ []
+  up_to_more = take_more names i d inside ∙ ap (λ k. take i names ++ k ∷ []) (sym is)
+
+  -- the next name is a new one
+  pub seen_next : (after : BTreeSet (List ℕ)) → has seen key ≡ false → Updates bytes_cmp seen after key true → AreSeen after (take (i + 1) names)
+  seen_next after new updates = rw up_to_more (seen_more seen after (take i names) key h new updates)
+
+  -- the next name was there before
+  pub alike_from_seen : has seen key ≡ true → Differ names → ⊥
+  alike_from_seen old differ =
+      let c = h.among key old in
+      let at = length-take i names in
+      let before : c.0 < i = omega (arith, c.1) in
+      let name_at : get_or names c.0 key ≡ key = sym (get_or-take i names c.0 key before) ∙ c.2 in
+      let next_at : get_or names i key ≡ key = get_or_default names i key d inside ∙ sym is in
+      differ c.0 i key before inside (name_at ∙ sym next_at)
+
+-- all names have been seen
+pub all_apart : (seen : BTreeSet (List ℕ)) (n : ℕ) (names : List (List ℕ)) → length names ≤ n → AreSeen seen (take n names) → Differ names
+all_apart seen n names all h = rw take_all n names all at h.differ

@@ -35,7 +35,7 @@ ends_at_more [] = tt
 ends_at_more (part ∷ parts) = ends_at_separator part.0 (body_part_words part.1 ++ more_words parts)
 
 -- A body that is spelled by the words that are left, where parts have been read before them.
-record Remains (body : Parts) (rest : List Word) (whole : Parts) : Type 0 where
+pub record Remains (body : Parts) (rest : List Word) (whole : Parts) : Type 0 where
   pub more : Body
   pub value : Parts
   pub words_are : body_words more ≡ rest

@@ -10,3 +10,8 @@ mod Copies
 mod Bodies
 mod Tails
 mod Rules
+mod PlainStarts
+mod Contents
+mod StatementLemmas
+mod PiecewiseLemmas
+mod ValueLemmas

@@ -80,7 +80,7 @@ const_without_first w ws e = record {
 }
 
 -- a value that an option has, where another of its values was mapped
-part_from : {P F : Type 0} (f : P → F) (found : Option P) (form : F) → option_map f found ≡ Some form → (p : P) × (found ≡ Some p) × (f p ≡ form)
+pub part_from : {P F : Type 0} (f : P → F) (found : Option P) (form : F) → option_map f found ≡ Some form → (p : P) × (found ≡ Some p) × (f p ≡ form)
 part_from f None form e = absurd (let x : ⊥ = cc in x)
 part_from f (Some p) form e = (p, refl, cc)
 

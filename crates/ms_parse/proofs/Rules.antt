@@ -11,7 +11,7 @@ use Rattle.ms_parse.specs.Content.{IsTail, IsRule}
 use Rattle.ms_parse.proofs.Fronts.{IsSplit, HasNone}
 use Rattle.ms_parse.proofs.Copies.{AreBoth, both_from_join}
 use Rattle.ms_parse.proofs.Bodies.{Parts}
-use Rattle.ms_parse.proofs.Tails.{ends_at_tail}
+use Rattle.ms_parse.proofs.Tails.{ends_at_tail, nonempty, left_nonempty}
 
 abbrev pub IsHeadSplit : List Word → Counted HeadForm → List Word → Type 0
 IsHeadSplit = IsSplit HeadPart (Counted HeadForm) head_words head_spelled EndsPart

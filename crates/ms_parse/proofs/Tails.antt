@@ -1,10 +1,10 @@
 -- What may follow a head.
-use Rattle.std.proofs.Common.{◌≡◌, ℕ, Bool, true, false, List, [], ◌∷◌, ◌++◌, Option, Some, None, refl, sym, ap, ◌∙◌}
+use Rattle.std.proofs.Common.{◌≡◌, ℕ, Bool, true, false, List, [], ◌∷◌, ◌++◌, Option, Some, None, IfSome, refl, sym, ap, ◌∙◌}
 use Rattle.ms_text.specs.declared.token.TokenKind.TheVariants.{If}
 use Rattle.ms_grammar.specs.Words.{Word, sign}
 use Rattle.ms_grammar.specs.Reading.{EndsPart}
-use Rattle.ms_grammar.specs.Statements.{Atom, plain, applied, atom_words, Literal, positive, negated, test, literal_words, BodyPart, literal, choice, aggregate, body_part_words, Body, body_words, more_words, Tail, no_tail, empty_tail, tail, tail_words, alone}
-use Rattle.ms_parse.specs.Content.{IsBody, IsTail}
+use Rattle.ms_grammar.specs.Statements.{Atom, plain, applied, atom_words, Literal, positive, negated, test, literal_words, BodyPart, literal, choice, aggregate, body_part_words, Body, body_words, more_words, Tail, no_tail, empty_tail, tail, tail_words, tail_spelled, body_spelled, alone}
+use Rattle.ms_parse.specs.Content.{IsSpelled, IsBody, IsTail}
 use Rattle.ms_parse.proofs.Bodies.{Parts}
 
 pub ends_at_tail : (t : Tail) → EndsPart (tail_words t)
@@ -41,15 +41,16 @@ part_some (aggregate with_not a) e = right_nonempty _ _ (left_nonempty _ _ (none
 body_some : (b : Body) → body_words b ≡ [] → ⊥
 body_some b e = left_nonempty (body_part_words b.first) (more_words b.more) (part_some b.first) e
 
+nothing_after : (t : Tail) (value : Parts) → tail_words t ≡ [] → tail_spelled t ≡ Some value → Some (alone []) ≡ Some value
+nothing_after no_tail value words spelled = spelled
+nothing_after empty_tail value words spelled = spelled
+nothing_after (tail b) value words spelled = cc
+
 pub tail_of_none : (ws : List Word) → ws ≡ [] → IsTail ws (Some (alone []))
 tail_of_none ws e = record {
   sound = record { derivation = no_tail; words_are = sym e; spells = refl };
-  complete = λ t value words spelled. none t value (words ∙ e) spelled;
-} where
-  none : (t : Tail) (value : Parts) → tail_words t ≡ [] → tail_spelled t ≡ Some value → Some (alone []) ≡ Some value
-  none no_tail value words spelled = spelled
-  none empty_tail value words spelled = spelled
-  none (tail b) value words spelled = cc
+  complete = λ t value words spelled. nothing_after t value (words ∙ e) spelled;
+}
 
 only_sign : (t : Tail) (value : Parts) → tail_words t ≡ sign If ∷ [] → tail_spelled t ≡ Some value → Some (alone []) ≡ Some value
 only_sign no_tail value words spelled = spelled
@@ -66,7 +67,7 @@ module _ (ws vs : List Word) (begins : ws ≡ sign If ∷ vs) (some : vs ≡ [] 
   body_of : (t : Tail) (value : Parts) → tail_words t ≡ ws → tail_spelled t ≡ Some value → found ≡ Some value
   body_of no_tail value words spelled = cc
   body_of empty_tail value words spelled = absurd (some cc)
-  body_of (tail b) value words spelled = h.complete b value cc spelled
+  body_of (tail b) value words spelled = h.complete b value (cc) spelled
 
   sound_tail : (o : Option Parts) → IfSome o (IsSpelled Body Parts body_words body_spelled vs) → IfSome o (IsSpelled Tail Parts tail_words tail_spelled ws)
   sound_tail None s = tt

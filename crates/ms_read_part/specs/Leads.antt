@@ -3,8 +3,7 @@ use Rattle.std.specs.Prelude.{Bool, true, false, if◌then◌else◌, Option, So
 use Rattle.std.specs.Option.{option_map}
 use Rattle.ms_text.specs.declared.token.TokenKind.{TokenKind}
 use Rattle.ms_text.specs.declared.token.TokenKind.TheVariants.{Name}
-use Rattle.ms_grammar.specs.declared.term.TextTerm.{TextTerm, out-TextTerm}
-use Rattle.ms_grammar.specs.declared.term.TextTerm.TheOpen.{Function}
+use Rattle.ms_grammar.specs.declared.term.TextTerm.{TextTerm, Function'}
 use Rattle.ms_grammar.specs.declared.part.Part.{Part}
 use Rattle.ms_grammar.specs.declared.part.Counted.{Counted}
 use Rattle.ms_grammar.specs.Terms.{Term, term_words, term_part}
@@ -21,7 +20,8 @@ abbrev pub lead_spelled : Term → Option Lead
 lead_spelled t = option_map (λ part. record { part = part; named = is_name (front_kind (term_words t)) }) (term_part t)
 
 abbrev pub is_function : TextTerm → Bool
-is_function term = elim (out-TextTerm term) [ Function f lists ↦ true | _ ↦ false ]
+is_function (Function' f shape lists) = true
+is_function term = false
 
 abbrev pub atom_of : Lead → Option (Counted TextTerm)
 atom_of lead = if lead.named then (if is_function lead.part.term then Some (as_atom lead.part) else None) else None

@@ -82,18 +82,30 @@ in_braces ws = sign LeftBrace ∷ ws ++ sign RightBrace ∷ []
 abbrev pub closed_by : {T : Type 0} → T → List Word → Option (T × List Word)
 closed_by value rest = if is_right_brace (front_kind rest) then Some (value, drop 1 rest) else None
 
+abbrev pub set_words : List SetPart → List Word
+set_words es = in_braces (separated (sign Semicolon) (map set_part_words es))
+
+abbrev pub tuples_words : List TuplePart → List Word
+tuples_words es = in_braces (separated (sign Semicolon) (map tuple_part_words es))
+
+abbrev pub set_spelled : List SetPart → Option (Counted Group)
+set_spelled es = option_map (with_value Set) (row_of set_part_spelled es)
+
+abbrev pub aggregate_group_spelled : AggFn → List TuplePart → Option (Counted Group)
+aggregate_group_spelled of es = option_map (with_value (Agg of)) (row_of tuple_part_spelled es)
+
 -- elements in braces, or those of a function
 pub data GroupPart : Type 0 where
-  set : List SetPart → GroupPart
-  function : AggFn → List TuplePart → GroupPart
+  set_group : List SetPart → GroupPart
+  function_group : AggFn → List TuplePart → GroupPart
 
 abbrev pub group_words : GroupPart → List Word
-group_words (set elements) = in_braces (separated (sign Semicolon) (map set_part_words elements))
-group_words (function of elements) = sign (function_kind of) ∷ in_braces (separated (sign Semicolon) (map tuple_part_words elements))
+group_words (set_group es) = set_words es
+group_words (function_group of es) = sign (function_kind of) ∷ tuples_words es
 
 abbrev pub group_spelled : GroupPart → Option (Counted Group)
-group_spelled (set elements) = option_map (with_value Set) (row_of set_part_spelled elements)
-group_spelled (function of elements) = option_map (with_value (Agg of)) (row_of tuple_part_spelled elements)
+group_spelled (set_group es) = set_spelled es
+group_spelled (function_group of es) = aggregate_group_spelled of es
 
 -- a group with the guard behind it
 abbrev pub guarded_words : GroupPart × Option Guard → List Word
@@ -104,8 +116,8 @@ guarded_spelled d = join (λ group right. (group, right)) (group_spelled d.0) (g
 
 -- what stands behind a term at the front
 pub data TailPart : Type 0 where
-  literal : Option (TokenKind × Term) → TailPart
-  guarded : Option TokenKind → GroupPart × Option Guard → TailPart
+  literal_tail : Option (TokenKind × Term) → TailPart
+  guarded_tail : Option TokenKind → GroupPart × Option Guard → TailPart
 
 abbrev pub sign_words : Option TokenKind → List Word
 sign_words None = []
@@ -123,12 +135,12 @@ abbrev pub guarded_tail_spelled : Cmp → GroupPart × Option Guard → Option T
 guarded_tail_spelled cmp d = option_map (Guarded cmp) (guarded_spelled d)
 
 abbrev pub tail_words : TailPart → List Word
-tail_words (literal c) = comparison_words c
-tail_words (guarded kind d) = sign_words kind ++ guarded_words d
+tail_words (literal_tail c) = comparison_words c
+tail_words (guarded_tail kind d) = sign_words kind ++ guarded_words d
 
 abbrev pub tail_spelled : TailPart → Option Tail
-tail_spelled (literal c) = literal_tail_spelled c
-tail_spelled (guarded kind d) = option_and_then (λ cmp. guarded_tail_spelled cmp d) (guard_cmp kind)
+tail_spelled (literal_tail c) = literal_tail_spelled c
+tail_spelled (guarded_tail kind d) = option_and_then (λ cmp. guarded_tail_spelled cmp d) (guard_cmp kind)
 
 abbrev pub group_from : Option TextGuard → Group × Option TextGuard → BodyLit
 group_from left (Set elements, right) = BodySet false (set_from left (elements, right))

@@ -59,7 +59,7 @@ fn read_some_set_elements<'a>(input: Input<'a>) -> Found<'a, Counted<SetElements
             return Ok(None);
         };
         push(&mut elements, element)?;
-        if !matches!(rest.front(), Some(TokenKind::Semicolon)) {
+        if !rest.begins_with(TokenKind::Semicolon) {
             return Ok(Some((elements, rest)));
         }
         left = rest.after_front();
@@ -77,7 +77,7 @@ fn read_tuple<'a>(input: Input<'a>) -> Found<'a, Counted<TextTerms>>
             return Ok(None);
         };
         push_term(&mut tuple, term)?;
-        if !matches!(rest.front(), Some(TokenKind::Comma)) {
+        if !rest.begins_with(TokenKind::Comma) {
             return Ok(Some((tuple, rest)));
         }
         left = rest.after_front();
@@ -120,7 +120,7 @@ fn read_some_tuple_elements<'a>(input: Input<'a>) -> Found<'a, Counted<AggElemen
             return Ok(None);
         };
         push(&mut elements, element)?;
-        if !matches!(rest.front(), Some(TokenKind::Semicolon)) {
+        if !rest.begins_with(TokenKind::Semicolon) {
             return Ok(Some((elements, rest)));
         }
         left = rest.after_front();
@@ -131,7 +131,7 @@ fn read_some_tuple_elements<'a>(input: Input<'a>) -> Found<'a, Counted<AggElemen
 pub(crate) fn read_set_elements<'a>(input: Input<'a>) -> Found<'a, Counted<SetElements>>
     ensures { IfOk result (Reads (List SetPart) (Counted (List SetElement)) (λ es. separated (sign Semicolon) (map set_part_words es)) (row_of set_part_spelled) EndsElements input.entry) }
 {
-    if matches!(input.front(), Some(TokenKind::RightBrace)) {
+    if input.begins_with(TokenKind::RightBrace) {
         return Ok(Some((alone(Seq::new(input.alloc)), input)));
     }
     read_some_set_elements(input)
@@ -141,7 +141,7 @@ pub(crate) fn read_set_elements<'a>(input: Input<'a>) -> Found<'a, Counted<SetEl
 pub(crate) fn read_tuple_elements<'a>(input: Input<'a>) -> Found<'a, Counted<AggElements>>
     ensures { IfOk result (Reads (List TuplePart) (Counted (List AggElement)) (λ es. separated (sign Semicolon) (map tuple_part_words es)) (row_of tuple_part_spelled) EndsElements input.entry) }
 {
-    if matches!(input.front(), Some(TokenKind::RightBrace)) {
+    if input.begins_with(TokenKind::RightBrace) {
         return Ok(Some((alone(Seq::new(input.alloc)), input)));
     }
     read_some_tuple_elements(input)

@@ -1,15 +1,13 @@
 // Sets and aggregates, from their braces on.
-ghost use Rattle.std.specs.Prelude.{◌≡◌, map, List, Option, Some, IfOk, ⊤};
+ghost use Rattle.std.specs.Prelude.{◌≡◌, List, Option, Some, IfOk, ⊤};
 ghost use Rattle.ms_grammar.specs.declared.part.Counted.{Counted};
 ghost use Rattle.ms_grammar.specs.declared.statement.TextGuard.{TextGuard};
 ghost use Rattle.ms_grammar.specs.declared.statement.SetElement.{SetElement};
 ghost use Rattle.ms_grammar.specs.declared.statement.AggElement.{AggElement};
-ghost use Rattle.ms_text.specs.declared.token.TokenKind.TheVariants.{Semicolon};
-ghost use Rattle.ms_grammar.specs.Words.{sign, separated};
-ghost use Rattle.ms_grammar.specs.Statements.{with_value, beside, row_of, Guard, right_words, guard_spelled, SetPart, set_part_words, set_part_spelled, TuplePart, tuple_part_words, tuple_part_spelled};
+ghost use Rattle.ms_grammar.specs.Statements.{with_value, beside, row_of, Guard, right_words, guard_spelled, SetPart, set_part_spelled, TuplePart, tuple_part_spelled};
 ghost use Rattle.ms_grammar.specs.Reading.{EndsPart, EndsTerm};
 ghost use Rattle.ms_read_part.specs.declared.group.Group.{Group};
-ghost use Rattle.ms_read_part.specs.Pieces.{GroupPart, group_words, group_spelled, guarded_words, guarded_spelled, bound_spelled, in_braces, closed_by};
+ghost use Rattle.ms_read_part.specs.Pieces.{GroupPart, group_words, group_spelled, guarded_words, guarded_spelled, bound_spelled, set_words, set_spelled, tuples_words, aggregate_group_spelled, closed_by};
 ghost use Rattle.ms_read_part.specs.declared.group.Group.TheVariants.{Set, Agg};
 ghost use Rattle.ms_grammar.specs.Terms.{Term, term_words};
 ghost use Rattle.ms_read_part.specs.Cuts.{Reads};
@@ -74,9 +72,9 @@ fn read_bound<'a>(cmp: Cmp, input: Input<'a>) -> Found<'a, Counted<Option<TextGu
 
 /// The elements of a set in braces at the front.
 fn read_set<'a>(input: Input<'a>) -> Found<'a, Counted<SetElements>>
-    ensures { IfOk result (Reads (List SetPart) (Counted (List SetElement)) (λ es. in_braces (separated (sign Semicolon) (map set_part_words es))) (row_of set_part_spelled) (λ ws. ⊤) input.entry) }
+    ensures { IfOk result (Reads (List SetPart) (Counted (List SetElement)) set_words (row_of set_part_spelled) (λ ws. ⊤) input.entry) }
 {
-    if !matches!(input.front(), Some(TokenKind::LeftBrace)) {
+    if !input.begins_with(TokenKind::LeftBrace) {
         return Ok(None);
     }
     let Some((elements, rest)) = read_set_elements(input.after_front())? else {
@@ -87,9 +85,9 @@ fn read_set<'a>(input: Input<'a>) -> Found<'a, Counted<SetElements>>
 
 /// The elements of an aggregate in braces at the front.
 fn read_tuples<'a>(input: Input<'a>) -> Found<'a, Counted<AggElements>>
-    ensures { IfOk result (Reads (List TuplePart) (Counted (List AggElement)) (λ es. in_braces (separated (sign Semicolon) (map tuple_part_words es))) (row_of tuple_part_spelled) (λ ws. ⊤) input.entry) }
+    ensures { IfOk result (Reads (List TuplePart) (Counted (List AggElement)) tuples_words (row_of tuple_part_spelled) (λ ws. ⊤) input.entry) }
 {
-    if !matches!(input.front(), Some(TokenKind::LeftBrace)) {
+    if !input.begins_with(TokenKind::LeftBrace) {
         return Ok(None);
     }
     let Some((elements, rest)) = read_tuple_elements(input.after_front())? else {
@@ -102,7 +100,7 @@ fn read_tuples<'a>(input: Input<'a>) -> Found<'a, Counted<AggElements>>
 fn closed<'a, T: Drop>(elements: T, rest: Input<'a>) -> Option<(T, Input<'a>)>
     ensures { result ≡ closed_by elements rest.entry }
 {
-    if matches!(rest.front(), Some(TokenKind::RightBrace)) {
+    if rest.begins_with(TokenKind::RightBrace) {
         Some((elements, rest.after_front()))
     } else {
         None
@@ -114,13 +112,30 @@ fn read_group<'a>(input: Input<'a>) -> Found<'a, Counted<Group>>
     ensures { IfOk result (Reads GroupPart (Counted Group) group_words group_spelled (λ ws. ⊤) input.entry) }
 {
     match opened_by(input.front()) {
-        Some(Opening::Set) => Ok(read_set(input)?.map(|(elements, rest)| (set(elements), rest))),
-        Some(Opening::Aggregate(function)) => Ok(read_tuples(input.after_front())?.map(|(
-            elements,
-            rest,
-        )| (aggregate(function, elements), rest))),
+        Some(Opening::Set) => read_set_group(input),
+        Some(Opening::Aggregate(function)) => read_aggregate_group(function, input.after_front()),
         None => Ok(None),
     }
+}
+
+/// The set at the front, as a group.
+fn read_set_group<'a>(input: Input<'a>) -> Found<'a, Counted<Group>>
+    ensures { IfOk result (Reads (List SetPart) (Counted Group) set_words set_spelled (λ ws. ⊤) input.entry) }
+{
+    let Some((elements, rest)) = read_set(input)? else {
+        return Ok(None);
+    };
+    Ok(Some((set(elements), rest)))
+}
+
+/// The elements of the function at the front, as a group.
+fn read_aggregate_group<'a>(function: AggFn, input: Input<'a>) -> Found<'a, Counted<Group>>
+    ensures { IfOk result (Reads (List TuplePart) (Counted Group) tuples_words (aggregate_group_spelled function) (λ ws. ⊤) input.entry) }
+{
+    let Some((elements, rest)) = read_tuples(input)? else {
+        return Ok(None);
+    };
+    Ok(Some((aggregate(function, elements), rest)))
 }
 
 fn set(elements: Counted<SetElements>) -> Counted<Group>

@@ -1,5 +1,6 @@
 // What is left to read.
-ghost use Rattle.std.specs.Prelude.{◌≡◌, ◌≤◌, List, length, drop};
+ghost use Rattle.std.specs.Prelude.{◌≡◌, ◌≢◌, ◌≤◌, List, length, drop, Some, true, false};
+ghost use Rattle.std.specs.Option.{option_map};
 ghost use Rattle.ms_text.specs.Tokens.{LieWithin};
 ghost use Rattle.ms_grammar.specs.Words.{Word, words_of};
 ghost use Rattle.ms_read_part.specs.Kinds.{front_kind};
@@ -60,6 +61,17 @@ impl<'a> Input<'a> {
         }
     }
 
+    /// Whether the first token is of this kind.
+    pub(crate) fn begins_with(&self, kind: TokenKind) -> bool
+        ensures is { result ≡ true → front_kind self.now ≡ Some kind }
+        ensures is_not { result ≡ false → front_kind self.now ≢ Some kind }
+    {
+        match self.front() {
+            Some(front) => front == kind,
+            None => false,
+        }
+    }
+
     /// The kind of the second token.
     pub(crate) fn second(&self) -> Option<TokenKind>
         ensures { result ≡ front_kind (drop 1 self.now) }
@@ -78,6 +90,16 @@ impl<'a> Input<'a> {
             self
         } else {
             self.after(1)
+        }
+    }
+
+    /// The value, if there is one, with what is left behind it.
+    pub(crate) fn behind<T>(self, value: Option<T>) -> Option<(T, Input<'a>)>
+        ensures { result ≡ option_map (λ v. (v, self.entry)) value }
+    {
+        match value {
+            Some(value) => Some((value, self)),
+            None => None,
         }
     }
 

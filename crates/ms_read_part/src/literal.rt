@@ -83,7 +83,7 @@ fn read_plain_literal<'a>(input: Input<'a>) -> Found<'a, Counted<TextLit>>
     let Some((comparison, rest)) = read_comparison(rest)? else {
         return Ok(None);
     };
-    Ok(literal_of(lead, comparison).map(|literal| (literal, rest)))
+    Ok(rest.behind(literal_of(lead, comparison)))
 }
 
 /// The literal with `not` in front, which only an atom may have.
@@ -115,13 +115,13 @@ fn counted_negated(literal: Counted<TextLit>) -> Option<Counted<TextLit>>
 fn read_literal<'a>(input: Input<'a>) -> Found<'a, Counted<TextLit>>
     ensures { IfOk result (Reads Literal (Counted TextLit) literal_words literal_spelled EndsPart input.entry) }
 {
-    if !matches!(input.front(), Some(TokenKind::Not)) {
+    if !input.begins_with(TokenKind::Not) {
         return read_plain_literal(input);
     }
     let Some((literal, rest)) = read_plain_literal(input.after_front())? else {
         return Ok(None);
     };
-    Ok(counted_negated(literal).map(|literal| (literal, rest)))
+    Ok(rest.behind(counted_negated(literal)))
 }
 
 /// The literals at the front, with commas between them.
@@ -135,7 +135,7 @@ fn read_literals<'a>(input: Input<'a>) -> Found<'a, Counted<TextLits>>
             return Ok(None);
         };
         push(&mut literals, literal)?;
-        if !matches!(rest.front(), Some(TokenKind::Comma)) {
+        if !rest.begins_with(TokenKind::Comma) {
             return Ok(Some((literals, rest)));
         }
         left = rest.after_front();
@@ -146,7 +146,7 @@ fn read_literals<'a>(input: Input<'a>) -> Found<'a, Counted<TextLits>>
 pub(crate) fn read_conditions<'a>(input: Input<'a>) -> Found<'a, Counted<TextLits>>
     ensures { IfOk result (Reads Conditions (Counted (List TextLit)) conditions_words conditions_spelled EndsElement input.entry) }
 {
-    if !matches!(input.front(), Some(TokenKind::Colon)) {
+    if !input.begins_with(TokenKind::Colon) {
         return Ok(Some((alone(Seq::new(input.alloc)), input)));
     }
     let rest = input.after_front();

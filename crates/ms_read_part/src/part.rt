@@ -155,20 +155,20 @@ fn read_led<'a>(input: Input<'a>) -> Found<'a, Counted<BodyLit>>
     let Some((tail, rest)) = read_tail(rest)? else {
         return Ok(None);
     };
-    Ok(part_of(lead, tail).map(|part| (part, rest)))
+    Ok(rest.behind(part_of(lead, tail)))
 }
 
 /// The part of a body at the front.
 pub(crate) fn read_part<'a>(input: Input<'a>) -> Found<'a, Counted<BodyLit>>
     ensures { IfOk result (Reads BodyPart (Counted BodyLit) body_part_words body_part_spelled EndsPart input.entry) }
 {
-    if !matches!(input.front(), Some(TokenKind::Not)) {
+    if !input.begins_with(TokenKind::Not) {
         return read_plain_part(input);
     }
     let Some((part, rest)) = read_plain_part(input.after_front())? else {
         return Ok(None);
     };
-    Ok(counted_negated(part).map(|part| (part, rest)))
+    Ok(rest.behind(counted_negated(part)))
 }
 
 fn counted_negated(part: Counted<BodyLit>) -> Option<Counted<BodyLit>>
@@ -207,7 +207,7 @@ pub(crate) fn read_head_form<'a>(input: Input<'a>) -> Found<'a, Counted<Head>>
     let Some((part, rest)) = read_plain_part(input)? else {
         return Ok(None);
     };
-    Ok(counted_head(part).map(|head| (head, rest)))
+    Ok(rest.behind(counted_head(part)))
 }
 
 fn counted_head(part: Counted<BodyLit>) -> Option<Counted<Head>>

@@ -72,7 +72,7 @@ fn counted(part: Part) -> Counted<TextTerm>
 pub(crate) fn read_lead<'a>(input: Input<'a>) -> Found<'a, Lead>
     ensures { IfOk result (Reads Term Lead term_words lead_spelled EndsTerm input.entry) }
 {
-    let named = matches!(input.front(), Some(TokenKind::Name));
+    let named = input.begins_with(TokenKind::Name);
     let Some((part, len)) = read_term(input.alloc, input.text, input.tokens)? else {
         return Ok(None);
     };
@@ -86,7 +86,7 @@ pub(crate) fn read_bounded<'a>(input: Input<'a>) -> Found<'a, Counted<TextTerm>>
     let Some((lead, rest)) = read_lead(input)? else {
         return Ok(None);
     };
-    Ok(lead.into_term().map(|term| (term, rest)))
+    Ok(rest.behind(lead.into_term()))
 }
 
 /// The atom at the front.
@@ -96,5 +96,5 @@ pub(crate) fn read_atom<'a>(input: Input<'a>) -> Found<'a, Counted<TextTerm>>
     let Some((lead, rest)) = read_lead(input)? else {
         return Ok(None);
     };
-    Ok(lead.into_atom().map(|atom| (atom, rest)))
+    Ok(rest.behind(lead.into_atom()))
 }

@@ -1,6 +1,6 @@
 -- How a term is read, word by word.
-use Rattle.std.specs.Prelude.{ℕ, zero, suc, ◌==◌, ◌^◌, nat_le, pos, neg_ℤ, if◌then◌else◌, Bool, true, false, List, [], ◌∷◌, Option, Some, None}
-use Rattle.std.specs.Option.{option_and_then, option_is_some}
+use Rattle.std.specs.Prelude.{ℕ, zero, suc, ◌==◌, ◌^◌, nat_le, nat_lt, pos, neg_ℤ, if◌then◌else◌, Bool, true, false, List, [], ◌∷◌, Option, Some, None}
+use Rattle.std.specs.Option.{option_and_then, is_some}
 use Rattle.ms_text.specs.declared.token.TokenKind.{TokenKind}
 use Rattle.ms_text.specs.declared.token.TokenKind.TheVariants.{Name, Number as NumberToken, Text as TextToken, Dot, DotDot, Comma, Semicolon, LeftParen, RightParen, Plus as PlusToken, Minus as MinusToken, Star, Slash, Backslash, Bar as BarToken}
 use Rattle.ms_grammar.specs.declared.term.TextTerm.{Number, Text, Function, Abs}
@@ -87,7 +87,7 @@ abbrev pub most_minuses : ℕ
 most_minuses = 201
 
 abbrev pub minus_begun : List Frame → Level → Outcome
-minus_begun frames level = if level.minuses == most_minuses then refused else next (wanted frames (record level { minuses = suc level.minuses }))
+minus_begun frames level = if nat_lt level.minuses most_minuses then next (wanted frames (record level { minuses = suc level.minuses })) else refused
 
 -- after a word where a part is to begin
 abbrev pub begun : List Frame → Level → Word → Outcome
@@ -115,7 +115,7 @@ low_pending_in true frames level p = refused
 low_pending_in false frames level p = made (λ q. next (wanted frames (record { low = Some q; sum = None; product = None; minuses = 0 }))) (closed_sum level p)
 
 abbrev pub low_pending : List Frame → Level → Part → Outcome
-low_pending frames level p = low_pending_in (option_is_some level.low) frames level p
+low_pending frames level p = low_pending_in (is_some level.low) frames level p
 
 -- behind a comma in a bracket
 abbrev pub comma_in : Bracket → List Frame → Frame → Part → Outcome
@@ -147,7 +147,7 @@ ended_in [] is_interval kind t = found t
 ended_in (frame ∷ frames) is_interval kind t = divided frames frame is_interval t kind
 
 abbrev pub ended : List Frame → Level → Part → TokenKind → Outcome
-ended frames level p kind = made (ended_in frames (option_is_some level.low) kind) (closed_term level p)
+ended frames level p kind = made (ended_in frames (is_some level.low) kind) (closed_term level p)
 
 -- after a token behind a part
 abbrev pub behind : List Frame → Level → Part → TokenKind → Outcome

@@ -13,11 +13,14 @@ pub(crate) struct Frames {
 }
 
 impl Model for Frames {
-    ghost use Rattle.std.specs.Prelude.{List, reverse, codes};
-    ghost use Rattle.std.specs.Coded.{codes as coded_by};
+    ghost use Rattle.std.specs.Prelude.{List, reverse};
+    ghost use Rattle.std.specs.Coded.{codes};
+    ghost use Rattle.ms_grammar.specs.contracts.term.TextTerm as text_term;
     ghost use Rattle.ms_read_term.specs.declared.bracket.Frame.{Frame};
 
     ghost Value = { List Frame };
+
+    ghost coded = { Prim.hlevel (codes, text_term.the_row.coded) };
 
     ghost view = { λ f. reverse f.items.items };
 }

@@ -1,6 +1,7 @@
 // A term as far as it was read.
 ghost use Rattle.std.specs.Prelude.{◌≡◌, ◌≤◌, length, IfOk, Some};
 ghost use Rattle.ms_text.specs.declared.token.TokenKind.{TokenKind};
+ghost use Rattle.ms_text.specs.Tokens.{number_of};
 ghost use Rattle.ms_grammar.specs.Words.{word_of};
 ghost use Rattle.ms_grammar.specs.Terms.{leaf};
 
@@ -56,7 +57,7 @@ pub(crate) struct Reader {
 }
 
 impl Reader {
-    ghost use Rattle.ms_read_term.specs.Machine.{at_start, outcome, step, opened, landed, begun, number_begun, minus_begun, bare, behind, product_pending, sum_pending, low_pending, ended, divided, comma, semicolon, closed, barred};
+    ghost use Rattle.ms_read_term.specs.Machine.{at_start, outcome, step, opened, landed, begun, number_begun, minus_begun, bare, behind_name, behind, product_pending, sum_pending, low_pending, ended, divided, comma, closed, barred};
 
     /// Before the first token.
     pub fn new(alloc: Global) -> Self
@@ -94,7 +95,7 @@ impl Reader {
                 self.place = Place::Named(Seq::copied(alloc, spelled)?);
                 Ok(Turn::Next)
             }
-            TokenKind::Number => self.number(alloc, number_of(spelled)),
+            TokenKind::Number => self.number(alloc, spelled),
             TokenKind::Text => {
                 let bytes = unescape(alloc, within_quotes(text, token))?;
                 self.land(alloc, self.level.minuses, leaf(TextTerm::Text(bytes)))
@@ -108,9 +109,11 @@ impl Reader {
     }
 
     // Reads a number where a part is to begin. The least number stands directly behind its minus.
-    fn number(&mut self, alloc: Global, number: Option<u64>) -> Result<Turn, OutOfMemory> {
+    fn number(&mut self, alloc: Global, digits: &[u8]) -> Result<Turn, OutOfMemory>
+        ensures { IfOk result (λ turn. outcome turn self.new ≡ number_begun self.old.frames self.old.level (number_of digits.now)) }
+    {
         let minuses = self.level.minuses;
-        match number {
+        match number_of(digits) {
             Some(number) if number <= GREATEST => {
                 self.land(alloc, minuses, leaf(TextTerm::Number(number as i64)))
             }
@@ -122,13 +125,16 @@ impl Reader {
     }
 
     // Reads a minus where a part is to begin.
-    fn minus(&mut self) -> Turn {
-        if self.level.minuses == MOST_MINUSES {
-            return Turn::Refused;
+    fn minus(&mut self) -> Turn
+        ensures { outcome result self.new ≡ minus_begun self.old.frames self.old.level }
+    {
+        if self.level.minuses < MOST_MINUSES {
+            self.level.minuses += 1;
+            self.place = Place::Wanted;
+            Turn::Next
+        } else {
+            Turn::Refused
         }
-        self.level.minuses += 1;
-        self.place = Place::Wanted;
-        Turn::Next
     }
 
     // Opens a bracket.

@@ -65,10 +65,9 @@ fn front_named(
     ensures value { IfOk result (λ found. found ≡ left (front_named name (words_of text.now after.now))) }
     ensures within { IfOk result (λ found. IfSome found (λ f. f.1 ≤ length after.now)) }
 {
-    let copy = Bytes::copied(alloc, name.as_slice())?;
-    match arguments_front(alloc, text, name, after)? {
+    match arguments_front(alloc, text, name.as_slice(), after)? {
         Some(found) => Ok(Some(found)),
-        None => Ok(Some((constant(alloc, copy), after.len()))),
+        None => Ok(Some((constant(alloc, name), after.len()))),
     }
 }
 
@@ -76,15 +75,16 @@ fn front_named(
 fn arguments_front(
     alloc: Global,
     text: &[u8],
-    name: Bytes,
+    name: &[u8],
     after: &[Token],
 ) -> Result<Option<(ValuePart, usize)>, OutOfMemory>
     requires { LieWithin (length text.now) after.now }
-    ensures value { IfOk result (λ found. found ≡ left (arguments_front name (words_of text.now after.now))) }
+    ensures value { IfOk result (λ found. found ≡ left (arguments_front name.now (words_of text.now after.now))) }
     ensures within { IfOk result (λ found. IfSome found (λ f. f.1 ≤ length after.now)) }
 {
     match after {
         [bracket, inside @ ..] if bracket.kind == TokenKind::LeftParen => {
+            let name = Bytes::copied(alloc, name)?;
             let groups = Groups::new(alloc).with(Group::new(alloc, Some(name)))?;
             let place = Place::First;
             read_on(
@@ -102,14 +102,13 @@ fn arguments_front(
 fn read_on(
     alloc: Global,
     text: &[u8],
-    progress: Progress,
+    mut progress: Progress,
     tokens: &[Token],
 ) -> Result<Option<(ValuePart, usize)>, OutOfMemory>
     requires { LieWithin (length text.now) tokens.now }
     ensures value { IfOk result (λ found. found ≡ left (read_on progress (words_of text.now tokens.now))) }
     ensures within { IfOk result (λ found. IfSome found (λ f. f.1 ≤ length tokens.now)) }
 {
-    let mut progress = progress;
     let mut rest = tokens;
     loop {
         match progress {

@@ -22,11 +22,9 @@ pub(crate) fn number_of(digits: &[u8]) -> u64
 pub(crate) fn plain(number: u64) -> Option<ValuePart>
     ensures { result ≡ value_part (numeral number) }
 {
-    if number > i64::MAX as u64 {
-        return None;
-    }
+    let value = i64::try_from(number).ok()?;
     Some(ValuePart {
-        value: Value::Number(number as i64),
+        value: Value::Number(value),
         height: 1,
     })
 }

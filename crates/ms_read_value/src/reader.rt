@@ -68,7 +68,7 @@ fn within(groups: Groups, place: Place) -> Result<Progress, OutOfMemory>
     Ok(Progress::Within(Reader { groups, place }))
 }
 
-fn refuse(groups: Groups, lexeme: Lexeme) -> Result<Progress, OutOfMemory>
+fn refuse(_groups: Groups, _lexeme: Lexeme) -> Result<Progress, OutOfMemory>
     ensures { IfOk result (λ progress. progress ≡ Progress.Failed) }
 {
     Ok(Progress::Failed)
@@ -172,7 +172,7 @@ fn after_name(
         Lexeme::Open => within(groups.with(Group::new(alloc, Some(name)))?, Place::First),
         lexeme => match behind(groups, constant(alloc, name))? {
             Progress::Within(reader) => after_value(alloc, reader.groups, lexeme),
-            progress => Ok(Progress::Failed),
+            _ => Ok(Progress::Failed),
         },
     }
 }

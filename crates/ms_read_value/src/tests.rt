@@ -1,9 +1,7 @@
-ghost use Rattle.std.specs.Prelude.{IsTrue};
-ghost use Rattle.ms_text.specs.Tokens.{LieWithin};
-
 use crate::read_front;
+use ms_grammar::part::ValuePart;
 use ms_grammar::value::Value;
-use ms_lex::{Token, lex};
+use ms_lex::lex;
 use std::alloc::Global;
 use std::test::Fail;
 
@@ -187,12 +185,18 @@ const ROWS: &[Row] = &[
     },
 ];
 
-fn lie_within(tokens: &[Token], length: usize) -> bool
-    ensures { IsTrue result → LieWithin length tokens.now }
-{
-    tokens
-        .iter()
-        .all(|token| token.start <= token.end && token.end <= length)
+fn front_of(alloc: Global, text: &[u8]) -> Result<Option<(ValuePart, usize)>, Fail> {
+    let tokens = lex(alloc, text).ok().ok_or("tokens")?;
+    Ok(read_front(alloc, text, tokens.as_slice())?)
+}
+
+/// A text of a word again and again.
+fn repeated(alloc: Global, word: &[u8], count: usize) -> Result<Vec<u8>, Fail> {
+    let mut text = Vec::new(alloc);
+    for _ in 0..count {
+        text.extend_from_slice(word)?;
+    }
+    Ok(text)
 }
 
 fn is_shape(value: &Value, shape: Shape) -> bool {
@@ -209,9 +213,7 @@ fn is_shape(value: &Value, shape: Shape) -> bool {
 #[test]
 fn reads_fronts(rt: HostRuntime) -> Result<(), Fail> {
     for row in ROWS {
-        let tokens = lex(rt.alloc(), row.text).ok().ok_or(row.message)?;
-        let front = read_front(rt.alloc(), row.text, tokens.as_slice())?;
-        match (front, row.front) {
+        match (front_of(rt.alloc(), row.text)?, row.front) {
             (Some((part, count)), Some((shape, height, want))) => {
                 assert!(rt; is_shape(&part.value, shape), "value of {}", row.message);
                 assert_eq!(rt; (part.height, count), (height, want), "{}", row.message);
@@ -224,27 +226,13 @@ fn reads_fronts(rt: HostRuntime) -> Result<(), Fail> {
     Ok(())
 }
 
-/// `f(f(..1..))` with so many names.
-fn nested(alloc: Global, names: usize) -> Result<Vec<u8>, Fail> {
-    let mut text = Vec::new(alloc);
-    for _ in 0..names {
-        text.push(b'f')?;
-        text.push(b'(')?;
-    }
-    text.push(b'1')?;
-    for _ in 0..names {
-        text.push(b')')?;
-    }
-    Ok(text)
-}
-
 #[test]
 fn limits_heights(rt: HostRuntime) -> Result<(), Fail> {
     for (names, height, count) in [(198, 199, 595), (199, 200, 598), (200, 1, 1), (201, 1, 1)] {
-        let text = nested(rt.alloc(), names)?;
-        let tokens = lex(rt.alloc(), text.as_slice()).ok().ok_or("tokens")?;
-        let front = read_front(rt.alloc(), text.as_slice(), tokens.as_slice())?;
-        let (part, read) = front.ok_or("a value")?;
+        let mut text = repeated(rt.alloc(), b"f(", names)?;
+        text.push(b'1')?;
+        text.extend_from_slice(repeated(rt.alloc(), b")", names)?.as_slice())?;
+        let (part, read) = front_of(rt.alloc(), text.as_slice())?.ok_or("a value")?;
         assert_eq!(rt; (part.height, read), (height, count), "{names} names");
     }
     Ok(())
@@ -252,11 +240,10 @@ fn limits_heights(rt: HostRuntime) -> Result<(), Fail> {
 
 #[test]
 fn refuses_a_million_of_open_brackets(rt: HostRuntime) -> Result<(), Fail> {
-    for (word, count) in [("f(", Some(1)), ("(", None), ("f((", Some(1))] {
-        let text = word.repeat(rt.alloc(), 40_000)?;
-        let tokens = lex(rt.alloc(), text.as_bytes()).ok().ok_or("tokens")?;
-        let front = read_front(rt.alloc(), text.as_bytes(), tokens.as_slice())?;
-        assert_eq!(rt; front.map(|(_, read)| read), count, "{word}");
+    for (word, want) in [("f(", Some(1)), ("(", None)] {
+        let text = repeated(rt.alloc(), word.as_bytes(), 1_000_000)?;
+        let front = front_of(rt.alloc(), text.as_slice())?;
+        assert_eq!(rt; front.map(|(_, read)| read), want, "{word}");
     }
     Ok(())
 }
