@@ -21,8 +21,8 @@ use Rattle.ms_analyze.specs.Analysis.{HasTemporaryReason, IsAsserting, IsBelow, 
 use Rattle.ms_analyze.specs.Cuts.{IsReadOff, entry_at, last_level, level_at, level_or_0, lit_at, lits_at, no_entry}
 use Rattle.ms_analyze.proofs.Marked.{Contains-first, Contains-behind}
 use Rattle.ms_analyze.proofs.Resolved.{All-front, lits_has, refuted_more}
-use Rattle.ms_analyze.proofs.Stages.{IsStage}
-use Rattle.ms_analyze.proofs.Trails.{entry_there, holds_there, kept_up_to, level_there, lost_up_to}
+use Rattle.ms_analyze.proofs.Stages.{IsStage, found_room}
+use Rattle.ms_analyze.proofs.Trails.{entry_there, holds_entry, holds_there, kept_up_to, level_there, lost_up_to}
 
 turned : (x : ℕ) (xs : List ℕ) → reverse (x ∷ xs) ≡ reverse xs ++ x ∷ []
 turned x xs = reverse-append (x ∷ []) xs
@@ -208,6 +208,9 @@ module _ (store : Store) (a : Assignment) (violated : ℕ) (places : List ℕ) (
   module _ (learned : Learned) (r : IsReadOff a.entries places last temporary learned) where
     pub learned_whole : IsWholeIn a.entries learned.lits
     learned_whole = subst (IsWholeIn a.entries) (sym r.lits) (all_whole a s.assignment places last within s.stage.within)
+
+    pub learned_room : All (λ (l : Lit). l.var < a.room) learned.lits
+    learned_room = λ k d lt. let e = holds_entry a.entries (get_or learned.lits k d) (learned_whole k d lt) in found_room a _ e.entry s.assignment e.found
 
     pub learned_different : AllPairs (λ (l : Lit) (m : Lit). l.var ≢ m.var) learned.lits
     learned_different = subst (λ (ls : List Lit). AllPairs (λ (l : Lit) (m : Lit). l.var ≢ m.var) ls) (sym r.lits) (all_different a s.assignment places last s.stage.ordered within s.stage.within s.stage.below)

@@ -64,16 +64,16 @@ pub reasoned_added : (old new : Store) (stored : Stored) (key : ℕ) (es : List 
 reasoned_added old new stored key es adds each i d lt = elim (each i d lt) [
   | inl none ↦ inl none
   | inr forced ↦ inr (record {
-      at_level = forced.at_level;
-      key = forced.key;
-      reason = forced.reason;
-      stored = forced.stored;
-      found = elim (cases_eq forced.key key) [
-        | inl same ↦ (let none : nogood_at old forced.key ≡ None = ap (λ (k : ℕ). nogood_at old k) same ∙ ap awake_in adds.was_free in let some = forced.found in cc)
-        | inr other ↦ ap awake_in (adds.others forced.key other) ∙ forced.found
-      ];
-      unit = forced.unit;
-    })
+    at_level = forced.at_level;
+    key = forced.key;
+    reason = forced.reason;
+    stored = forced.stored;
+    found = elim (cases_eq forced.key key) [
+      | inl same ↦ (let none : nogood_at old forced.key ≡ None = ap (λ (k : ℕ). nogood_at old k) same ∙ ap awake_in adds.was_free in let some = forced.found in cc)
+      | inr other ↦ ap awake_in (adds.others forced.key other) ∙ forced.found
+    ];
+    unit = forced.unit;
+  })
 ]
 
 some_reason : (o : Option ℕ) (key : ℕ) → o ≡ Some key → o ≡ None → ⊥
@@ -86,8 +86,8 @@ one_decision store before mid after e level t higher pushes p i k d less inside 
       let len : length mid.entries ≡ length before.entries + 1 = ap length pushes ∙ length-append before.entries (e ∷ []) in
       let here : i < length before.entries = omega (arith, len) in
       let same : get_or after.entries i d ≡ get_or before.entries i d =
-          ap (λ (es : List Entry). get_or es i d) p.entries ∙ get_or-append mid.entries p.added d i (omega (arith, len))
-          ∙ ap (λ (es : List Entry). get_or es i d) pushes ∙ get_or-append before.entries (e ∷ []) d i here in
+      ap (λ (es : List Entry). get_or es i d) p.entries ∙ get_or-append mid.entries p.added d i (omega (arith, len))
+      ∙ ap (λ (es : List Entry). get_or es i d) pushes ∙ get_or-append before.entries (e ∷ []) d i here in
       let low = t.present i d here in
       let lev : (get_or after.entries i d).level ≡ (get_or before.entries i d).level = ap (λ (x : Entry). x.level) same in
       omega (arith, low, lev, at_i)

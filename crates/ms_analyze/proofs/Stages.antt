@@ -46,7 +46,7 @@ reason_there store entries place key reasoned within is = elim (reasoned place n
 ]
 
 -- a variable that is assigned is below the room
-found_room : (a : Assignment) (var : ℕ) (e : Entry) → IsAssignment a → entry_of a.entries var ≡ Some e → var < a.room
+pub found_room : (a : Assignment) (var : ℕ) (e : Entry) → IsAssignment a → entry_of a.entries var ≡ Some e → var < a.room
 found_room a var e t found =
     let p = placed a.entries var e found in
     let inside = t.within (place_in a.entries var) no_entry p.within in

@@ -2,7 +2,7 @@
 // present level.
 #![tactic(auto)]
 
-ghost use Rattle.std.specs.Prelude.{◌≡◌, ◌≢◌, ◌≤◌, ◌⊎◌, AllPairs, IfOk, IsTrue, false};
+ghost use Rattle.std.specs.Prelude.{◌≡◌, ◌≢◌, ◌<◌, ◌≤◌, ◌⊎◌, All, AllPairs, IfOk, IsTrue, false};
 ghost use Rattle.ms_lits.specs.Assignment.{IsWholeIn};
 ghost use Rattle.ms_lits.specs.Literals.{IsRefuted};
 ghost use Rattle.ms_nogood.specs.Propagation.{IsWholeAt, nogoods_in};
@@ -22,7 +22,7 @@ use std::alloc::Global;
 /// What a conflict teaches.
 #[derive(Debug, Drop)]
 pub struct Learned {
-    /// A nogood. Its first literal is the one of the level of the conflict; the others come by falling levels.
+    /// A nogood. Its first literal is the one of the level of the conflict.
     pub lits: Lits,
     /// The level to jump back to.
     pub back: u32,
@@ -43,6 +43,7 @@ pub fn analyze(
     requires reasons { AreReasoned store.now trail.now.entries }
     requires decision { IsOnlyDecision trail.now.level trail.now.entries }
     ensures whole { IfOk result (λ r. IsWholeIn trail.now.entries r.lits) }
+    ensures room { IfOk result (λ r. All (λ l. l.var < trail.now.room) r.lits) }
     ensures different { IfOk result (λ r. AllPairs (λ l m. l.var ≢ m.var) r.lits) }
     ensures asserting { IfOk result (λ r. IsAsserting trail.now r.lits r.back) }
     ensures back { IfOk result (λ r. IsGreatestBelow trail.now r.lits r.back) }
@@ -52,10 +53,10 @@ pub fn analyze(
 {
     let mut cut = Cut::new(alloc);
     cut.mark(violated, trail.len(), trail, store)?;
-    let mut top = cut.take_last();
-    while let Some(reason) = cut.reason_of(top, trail) {
-        cut.mark(reason, top, trail, store)?;
-        top = cut.take_last();
+    let mut last = cut.take_last();
+    while let Some(reason) = cut.reason_of(last, trail) {
+        cut.mark(reason, last, trail, store)?;
+        last = cut.take_last();
     }
-    cut.learned(top, alloc, trail)
+    cut.learned(last, alloc, trail)
 }

@@ -1,10 +1,9 @@
 -- Names that were seen, and whether they differ.
-use Rattle.std.proofs.Common.{◌≡◌, ◌≢◌, ℕ, ◌+◌, ◌<◌, ◌≤◌, Bool, true, false, cond, List, [], ◌∷◌, ◌++◌, length, take, get_or, refl, sym, ap, ◌∙◌, inl, inr, ◌⊎◌, subst, AllPairs, Decides, Ordering, arith}
+use Rattle.std.proofs.Common.{◌≡◌, ◌≢◌, ℕ, ◌+◌, ◌<◌, ◌≤◌, Bool, true, false, not, List, [], ◌∷◌, ◌++◌, length, take, get_or, refl, sym, ap, ◌∙◌, inl, inr, ◌⊎◌, subst, AllPairs, Ordering, arith}
 use Rattle.std.specs.List.{Contains}
 use Rattle.std.specs.Ordering.{nat_cmp, eq_by_cmp}
 use Rattle.std.specs.Cmp.Lexicographic.{slice_cmp}
 use Rattle.std.specs.BTreeSet.{BTreeSet, contains, Updates}
-use Rattle.std.proofs.lemmas.Bool.{cases_Bool}
 use Rattle.std.proofs.lemmas.List.{take_more, take_all, length-take, get_or-take, get_or_default}
 use Rattle.std.proofs.lemmas.List.Elements.{Contains-get_or, Contains-append_left, Contains-push, Contains-push_cases}
 use Rattle.std.proofs.lemmas.List.Quantifiers.{all_pairs_push}
@@ -80,4 +79,13 @@ module _ (names : List (List ℕ)) (i : ℕ) (inside : i < length names) (key d 
 
 -- all names have been seen
 pub all_apart : (seen : BTreeSet (List ℕ)) (n : ℕ) (names : List (List ℕ)) → length names ≤ n → AreSeen seen (take n names) → Differ names
-all_apart seen n names all h = rw take_all n names all at h.differ
+all_apart seen n names all h = rw (take_all n names all) at h.differ
+
+-- what `insert` tells of the set before
+pub was_seen : (new seen : Bool) → new ≡ not seen → new ≡ false → seen ≡ true
+was_seen new true e h = refl
+was_seen new false e h = cc
+
+pub was_new : (new seen : Bool) → new ≡ not seen → new ≡ true → seen ≡ false
+was_new new true e h = cc
+was_new new false e h = refl

@@ -1,10 +1,8 @@
 -- Bodies, read part by part.
-use Rattle.std.proofs.Common.{◌≡◌, ℕ, Bool, true, false, List, [], ◌∷◌, ◌++◌, map, Option, Some, None, refl, sym, ap, ◌∙◌, subst, append-nil}
-use Rattle.std.proofs.Common.{inl, inr, ◌⊎◌}
-use Rattle.ms_text.specs.declared.token.TokenKind.TheVariants.{Comma, Semicolon}
+use Rattle.std.proofs.Common.{◌≡◌, Bool, true, false, List, [], ◌∷◌, ◌++◌, map, Some, None, refl, sym, ap, ◌∙◌, subst}
 use Rattle.ms_grammar.specs.declared.statement.BodyLit.{BodyLit}
 use Rattle.ms_grammar.specs.declared.part.Counted.{Counted}
-use Rattle.ms_grammar.specs.Words.{Word, sign}
+use Rattle.ms_grammar.specs.Words.{Word}
 use Rattle.ms_grammar.specs.Reading.{EndsPart}
 use Rattle.ms_grammar.specs.Statements.{BodyPart, body_part_words, body_part_spelled, Body, body_words, body_spelled, more_words, separator, row_of, alone}
 use Rattle.ms_parse.specs.Content.{IsSpelled, IsBody, with_part}
@@ -60,7 +58,7 @@ nothing_before_body b value e = let p = parts_of b value e in rw p.whole_is (not
 pub read_to_start : (ws : List Word) → IsReadTo ws (alone []) ws
 read_to_start ws = record {
   sound = λ b value words spelled.
-    subst (λ (v : Parts). IsBodySpelled ws v) (nothing_before_body b value spelled) (record { derivation = b; words_are = words; spells = spelled });
+      subst (λ (v : Parts). IsBodySpelled ws v) (nothing_before_body b value spelled) (record { derivation = b; words_are = words; spells = spelled });
   complete = λ b value words spelled. record { more = b; value = value; words_are = words; spells = spelled; is = nothing_before_body b value spelled };
 }
 
@@ -70,9 +68,9 @@ module _ (ws : List Word) (body : Parts) (rest : List Word) (h : IsReadTo ws bod
   body_without_part none = record {
     sound = tt;
     complete = λ b value words spelled.
-      let r = h.complete b value words spelled in
-      let p = parts_of r.more r.value r.spells in
-      absurd (none r.more.first (more_words r.more.more) p.left (sym r.words_are) (ends_at_more r.more.more) p.left_is);
+        let r = h.complete b value words spelled in
+        let p = parts_of r.more r.value r.spells in
+        absurd (none r.more.first (more_words r.more.more) p.left (sym r.words_are) (ends_at_more r.more.more) p.left_is);
   }
 
   module _ (part : Part) (after : List Word) (split : IsPartSplit rest part after) where
@@ -109,14 +107,14 @@ module _ (ws : List Word) (body : Parts) (rest : List Word) (h : IsReadTo ws bod
     pub body_at_end : after ≡ [] → IsBody ws (Some (with_part body part))
     body_at_end nothing = record {
       sound =
-        let b : Body = record { first = split.derivation; more = [] } in
-        let words : body_words b ≡ rest = sym (split.words_are ∙ ap (λ vs. body_part_words split.derivation ++ vs) nothing) in
-        let spelled : body_spelled b ≡ Some (before part (alone [])) = rw split.spells refl in
-        subst (λ (v : Parts). IsBodySpelled ws v) (last_one body part) (h.sound b (before part (alone [])) words spelled);
+          let b : Body = record { first = split.derivation; more = [] } in
+          let words : body_words b ≡ rest = sym (split.words_are ∙ ap (λ vs. body_part_words split.derivation ++ vs) nothing) in
+          let spelled : body_spelled b ≡ Some (before part (alone [])) = rw split.spells refl in
+          subst (λ (v : Parts). IsBodySpelled ws v) (last_one body part) (h.sound b (before part (alone [])) words spelled);
       complete = λ b value words spelled.
-        let r = h.complete b value words spelled in
-        let last = last_value r.more r.value r.words_are r.spells nothing r.more.more refl in
-        ap Some (sym (r.is ∙ ap (and_then body) last ∙ last_one body part));
+          let r = h.complete b value words spelled in
+          let last = last_value r.more r.value r.words_are r.spells nothing r.more.more refl in
+          ap Some (sym (r.is ∙ ap (and_then body) last ∙ last_one body part));
     }
 
     -- Something else than a separator follows the part.
@@ -132,8 +130,8 @@ module _ (ws : List Word) (body : Parts) (rest : List Word) (h : IsReadTo ws bod
     body_not_separated some separates = record {
       sound = tt;
       complete = λ b value words spelled.
-        let r = h.complete b value words spelled in
-        absurd (no_body r.more r.value r.words_are r.spells some separates r.more.more refl);
+          let r = h.complete b value words spelled in
+          absurd (no_body r.more r.value r.words_are r.spells some separates r.more.more refl);
     }
 
     -- A separator follows the part.
@@ -158,11 +156,11 @@ module _ (ws : List Word) (body : Parts) (rest : List Word) (h : IsReadTo ws bod
       pub read_to_more : IsReadTo ws (with_part body part) rest'
       read_to_more = record {
         sound = λ b value words spelled.
-          let longer : Body = record { first = split.derivation; more = (s, b.first) ∷ b.more } in
-          let all : body_words longer ≡ rest = sym (split.words_are ∙ ap (λ vs. body_part_words split.derivation ++ vs) (separated ∙ ap (λ vs. separator s ∷ vs) (sym words))) in
-          let longer_spelled : body_spelled longer ≡ Some (before part value) = rw (split.spells, spelled) refl in
-          subst (λ (v : Parts). IsBodySpelled ws v) (one_more body part value) (h.sound longer (before part value) all longer_spelled);
+            let longer : Body = record { first = split.derivation; more = (s, b.first) ∷ b.more } in
+            let all : body_words longer ≡ rest = sym (split.words_are ∙ ap (λ vs. body_part_words split.derivation ++ vs) (separated ∙ ap (λ vs. separator s ∷ vs) (sym words))) in
+            let longer_spelled : body_spelled longer ≡ Some (before part value) = rw (split.spells, spelled) refl in
+            subst (λ (v : Parts). IsBodySpelled ws v) (one_more body part value) (h.sound longer (before part value) all longer_spelled);
         complete = λ b value words spelled.
-          let r = h.complete b value words spelled in
-          remains_after r.more r.value value r.words_are r.spells r.is r.more.more refl;
+            let r = h.complete b value words spelled in
+            remains_after r.more r.value value r.words_are r.spells r.is r.more.more refl;
       }

@@ -1,7 +1,8 @@
 -- What stands before a dot, by the first word.
-use Rattle.std.proofs.Common.{◌≡◌, ◌≢◌, ℕ, nat_eq, nat_le, cond, Bool, true, false, List, [], ◌∷◌, ◌++◌, Option, Some, None, IfSome, refl, sym, ap, ◌∙◌, subst, codes}
+use Rattle.std.proofs.Common.{◌≡◌, ℕ, nat_le, cond, Bool, true, false, List, [], ◌∷◌, ◌++◌, Option, Some, None, IfSome, IsSomeAnd, MatchOption, refl, sym, ap, ◌∙◌, subst, codes}
+use Rattle.std.specs.Bool.{then_some}
 use Rattle.std.specs.Option.{option_map, option_and_then}
-use Rattle.std.specs.Cmp.Lexicographic.{pointwise, bytes_decides}
+use Rattle.std.specs.Cmp.Lexicographic.{bytes_decides}
 use Rattle.ms_text.specs.declared.token.Token.{Token}
 use Rattle.ms_text.specs.declared.token.TokenKind.{TokenKind}
 use Rattle.ms_text.specs.declared.token.TokenKind.TheVariants.{Program, External, Const, Show, Include, Slash, Less, Greater}
@@ -9,15 +10,15 @@ use Rattle.ms_grammar.specs.declared.term.TextTerm.{TextTerm}
 use Rattle.ms_grammar.specs.declared.statement.Form.{Form}
 use Rattle.ms_grammar.specs.declared.statement.Form.TheVariants.{External as ExternalForm, Show as ShowForm, ShowNone, IncludeIncmode}
 use Rattle.ms_grammar.specs.declared.part.Counted.{Counted}
-use Rattle.ms_grammar.specs.Words.{Word, name, number, sign, word_by_kind}
+use Rattle.ms_grammar.specs.Words.{Word, name, number, sign, word_by_kind, word_of, words_of}
 use Rattle.ms_grammar.specs.Terms.{greatest_numeral}
 use Rattle.ms_grammar.specs.Statements.{Atom, rule_spelled, Sentence, rule, program, external, const, show, show_none, include, sentence_spelled, alone, with_value, HeadPart, head_words, Tail, tail_words}
-use Rattle.ms_parse.specs.Words.{name_in, numeral_in, is_name, show_in, is_incmode}
+use Rattle.ms_parse.specs.Words.{is_name, show_in, is_incmode}
 use Rattle.ms_parse.specs.Content.{IsSpelled, IsExact, IsContent, IsRule, IsAtom, ConstLine, IsConstLine, ProgramLine, IsProgramLine, content_words}
 use Rattle.ms_parse.proofs.Lines.{part_from}
-use Rattle.ms_parse.proofs.NameLemmas.{name_from_word}
 use Rattle.ms_parse.proofs.PlainStarts.{is_directive, StartsPlain, rule_plain}
 use Rattle.ms_parse.proofs.Rules.{rule_of_none}
+use Rattle.ms_parse.proofs.SignLemmas.{sign_from_kind}
 
 -- no rule has these words
 no_rule : (h : HeadPart) (t : Tail) (w : Word) (ws : List Word) → is_directive w ≡ true → head_words h ++ tail_words t ≡ w ∷ ws → ⊥
@@ -38,11 +39,11 @@ module _ (D V : Type 0) (words : D → List Word) (spelled : D → Option V) (ki
   content_of_line ws found h = record {
     sound = sound_line ws found h.sound;
     complete = λ s value e spells.
-      let d = covers s ws e in
-      let here : option_map f (spelled d.0) ≡ Some value = sym (spelled_is d.0) ∙ ap sentence_spelled d.1 ∙ spells in
-      let p = part_from f (spelled d.0) value here in
-      let rest : sign kind ∷ words d.0 ≡ sign kind ∷ ws = sym (words_are d.0) ∙ ap content_words d.1 ∙ e in
-      ap (option_map f) (h.complete d.0 p.0 (cc) p.1) ∙ ap Some p.2;
+        let d = covers s ws e in
+        let here : option_map f (spelled d.0) ≡ Some value = sym (spelled_is d.0) ∙ ap sentence_spelled d.1 ∙ spells in
+        let p = part_from f (spelled d.0) value here in
+        let rest : sign kind ∷ words d.0 ≡ sign kind ∷ ws = sym (words_are d.0) ∙ ap content_words d.1 ∙ e in
+        ap (option_map f) (h.complete d.0 p.0 (cc) p.1) ∙ ap Some p.2;
   }
 
 program_covers : (s : Sentence) (ws : List Word) → content_words s ≡ sign Program ∷ ws → (l : ProgramLine) × (program l.program_name l.params l.differ ≡ s)
@@ -159,19 +160,19 @@ include_only (rule h t) ws e = absurd (no_rule h t (sign Include) ws refl e)
 include_only include ws e = (refl, cc)
 include_only _ ws e = absurd (let f : ⊥ = cc in f)
 
-pub content_of_include : (ws : List Word) (b : Bool) → b ≡ is_incmode ws → IsContent (sign Include ∷ ws) (cond b (Some (alone IncludeIncmode)) None)
+pub content_of_include : (ws : List Word) (b : Bool) → b ≡ is_incmode ws → IsContent (sign Include ∷ ws) (then_some b (alone IncludeIncmode))
 content_of_include ws true e = record {
   sound = record { derivation = include; words_are = ap (λ vs. sign Include ∷ vs) (sym (include_words ws (sym e))); spells = refl };
   complete = λ s value words spelled.
-    let only = include_only s ws words in
-    ap sentence_spelled (sym only.0) ∙ spelled;
+      let only = include_only s ws words in
+      ap sentence_spelled (sym only.0) ∙ spelled;
 }
 content_of_include ws false e = record {
   sound = tt;
   complete = λ s value words spelled.
-    let only = include_only s ws words in
-    let read : is_incmode ws ≡ true = ap is_incmode (sym only.1) in
-    absurd (let f : ⊥ = cc in f);
+      let only = include_only s ws words in
+      let read : is_incmode ws ≡ true = ap is_incmode (sym only.1) in
+      absurd (let f : ⊥ = cc in f);
 }
 
 module _ (w : Word) (ws : List Word) (plain : is_directive w ≡ false) (found : Option (Counted Form)) (h : IsRule (w ∷ ws) found) where
@@ -206,3 +207,33 @@ no_content_by _ value ws e words spelled = let f : ⊥ = cc in f
 
 pub no_content : (ws : List Word) → ws ≡ [] → IsContent ws None
 no_content ws e = record { sound = tt; complete = λ s value words spelled. absurd (no_content_by s value ws e words spelled) }
+
+-- what a call of `map` gives
+pub mapped : {V W : Type 0} (f : V → W) (found : Option V) (result : Option W) → MatchOption found (result ≡ None) (λ x. IsSomeAnd result (λ y. y ≡ f x)) → result ≡ option_map f found
+mapped f None result h = h
+mapped f (Some x) None h = absurd h
+mapped f (Some x) (Some y) h = ap Some h
+
+module _ (text : List ℕ) (content after : List Token) (first : Token) (split : content ≡ first ∷ after) (result : Option (Counted Form)) where
+  begins_with : (kind : TokenKind) → ((t : Token) → word_by_kind kind text t ≡ sign kind) → first.kind ≡ kind → words_of text content ≡ sign kind ∷ words_of text after
+  begins_with kind says e = ap (words_of text) split ∙ ap (λ w. w ∷ words_of text after) (sign_from_kind text first kind says e)
+
+  pub program_read : first.kind ≡ Program → (found : Option Form) → IsProgramLine (words_of text after) found → result ≡ option_map alone found → IsContent (words_of text content) result
+  program_read kind found h e = rw (e, begins_with Program (λ t. refl) kind) (content_of_program _ found h)
+
+  pub external_read : first.kind ≡ External → (found : Option (Counted TextTerm)) → IsAtom (words_of text after) found → result ≡ option_map (with_value ExternalForm) found → IsContent (words_of text content) result
+  external_read kind found h e = rw (e, begins_with External (λ t. refl) kind) (content_of_external _ found h)
+
+  pub const_read : first.kind ≡ Const → (found : Option Form) → IsConstLine (words_of text after) found → result ≡ option_map alone found → IsContent (words_of text content) result
+  const_read kind found h e = rw (e, begins_with Const (λ t. refl) kind) (content_of_const _ found h)
+
+  pub show_read : first.kind ≡ Show → (found : Option Form) → found ≡ show_in (words_of text after) → result ≡ option_map alone found → IsContent (words_of text content) result
+  show_read kind found h e = rw (e, h, begins_with Show (λ t. refl) kind) (content_of_show _)
+
+  pub include_read : first.kind ≡ Include → (b : Bool) → b ≡ is_incmode (words_of text after) → result ≡ then_some b (alone IncludeIncmode) → IsContent (words_of text content) result
+  include_read kind b h e = rw (e, begins_with Include (λ t. refl) kind) (content_of_include _ b h)
+
+  pub rule_read : (first.kind ≡ Program → ⊥) → (first.kind ≡ External → ⊥) → (first.kind ≡ Const → ⊥) → (first.kind ≡ Show → ⊥) → (first.kind ≡ Include → ⊥) → IsRule (words_of text content) result → IsContent (words_of text content) result
+  rule_read p e c s i h =
+      let words : words_of text content ≡ word_of text first ∷ words_of text after = ap (words_of text) split in
+      rw words (content_of_rule (word_of text first) (words_of text after) (plain_kind first.kind text first p e c s i) result (rw words at h))

@@ -1,11 +1,10 @@
 -- Counts of choices and of copies of elements.
-use Rattle.std.proofs.Common.{◌≡◌, ℕ, zero, suc, ◌+◌, ◌*◌, ◌<◌, ◌≤◌, min, List, [], ◌∷◌, ◌++◌, Option, Some, None, refl, sym, ap, ◌∙◌, inl, inr, ◌⊎◌, append_assoc, arith}
+use Rattle.std.proofs.Common.{◌≡◌, ℕ, zero, suc, ◌+◌, ◌*◌, ◌<◌, ◌≤◌, List, [], ◌∷◌, ◌++◌, Option, Some, None, refl, sym, ap, ◌∙◌, inl, inr, ◌⊎◌, append_assoc, arith}
 use Rattle.std.proofs.lemmas.Bool.{cases_lt}
-use Rattle.std.proofs.Math.Nat.{mul-le-mul_right, mul-le-mul_left}
+use Rattle.std.proofs.Math.Nat.{mul-le-mul_right}
 use Rattle.ms_grammar.specs.declared.part.Counted.{Counted}
-use Rattle.ms_grammar.specs.Terms.{counted, both}
+use Rattle.ms_grammar.specs.Terms.{counted}
 use Rattle.ms_grammar.specs.Statements.{alone, beside, join}
-use Rattle.ms_parse.specs.Content.{with_part}
 
 counted-plus : (a b : ℕ) → counted (a + counted b) ≡ counted (a + b)
 counted-plus a b = omega arith

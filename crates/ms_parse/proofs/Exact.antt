@@ -1,5 +1,5 @@
 -- Readers of all of the words, from readers of a front of them.
-use Rattle.std.proofs.Common.{◌≡◌, ℕ, ◌+◌, ◌≤◌, ◌==◌, Bool, true, false, cond, List, [], ◌∷◌, ◌++◌, length, take, drop, Option, Some, None, refl, ap, sym, ◌∙◌, subst, append-nil, arith, eq-eqb}
+use Rattle.std.proofs.Common.{◌≡◌, ℕ, ◌==◌, Bool, true, false, cond, List, [], length, Option, Some, None, refl, ap, sym, ◌∙◌, append-nil, eq-eqb}
 use Rattle.std.specs.Option.{IfSome}
 use Rattle.std.proofs.lemmas.Bool.{eqb-true}
 use Rattle.std.proofs.lemmas.List.{length-map}
@@ -34,8 +34,8 @@ module _ (D V : Type 0) (words : D → List Word) (spelled : D → Option V) whe
   exact_from_read Ends at_end ws found read = record {
     sound = sound_whole ws found read.sound;
     complete = λ d value e s.
-      let is : found ≡ Some (value, length (words d)) = read.complete d [] value (sym e ∙ sym (append-nil (words d))) at_end s in
-      rw is (whole_same value (length (words d)) (length ws) (ap length e));
+        let is : found ≡ Some (value, length (words d)) = read.complete d [] value (sym e ∙ sym (append-nil (words d))) at_end s in
+        rw is (whole_same value (length (words d)) (length ws) (ap length e));
   }
 
   -- the same over tokens

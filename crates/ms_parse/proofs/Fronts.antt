@@ -1,5 +1,5 @@
 -- A front of words that spells a value, and what follows it.
-use Rattle.std.proofs.Common.{◌≡◌, ℕ, List, ◌++◌, length, take, drop, Option, Some, None, refl, sym, ap, ◌∙◌, take-append-drop}
+use Rattle.std.proofs.Common.{◌≡◌, ℕ, List, ◌++◌, length, drop, Option, Some, None, sym, ◌∙◌, take-append-drop}
 use Rattle.std.proofs.Math.Seq.{drop-append_seam}
 use Rattle.std.proofs.lemmas.Option.{some_pair_parts}
 use Rattle.ms_grammar.specs.Words.{Word}
@@ -25,8 +25,8 @@ module _ (D V : Type 0) (words : D → List Word) (spelled : D → Option V) (En
         words_are = rw front.words_are (sym (take-append-drop n ws));
         spells = front.spells;
         only = λ d rest other is ends s.
-          let parts = some_pair_parts value other n (length (words d)) (sym e ∙ read.complete d rest other is ends s) in
-          (sym parts.0, rw (parts.1, is) (sym (drop-append_seam (words d) rest)));
+            let parts = some_pair_parts value other n (length (words d)) (sym e ∙ read.complete d rest other is ends s) in
+            (sym parts.0, rw (parts.1, is) (sym (drop-append_seam (words d) rest)));
       }
 
   pub none_from_read : (ws : List Word) (found : Option (V × ℕ)) → found ≡ None → IsRead D V words spelled Ends ws found → HasNone ws

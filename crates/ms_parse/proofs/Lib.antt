@@ -5,6 +5,8 @@ mod Digits
 mod NameLemmas
 mod Lines
 mod Apart
+mod NameSteps
+mod TokenFronts
 mod Fronts
 mod Copies
 mod Bodies

@@ -3,13 +3,12 @@ use Rattle.std.proofs.Common.{◌≡◌, ◌≢◌, ℕ, List, [], ◌∷◌, Op
 use Rattle.std.specs.Option.{option_map}
 use Rattle.ms_text.specs.declared.token.TokenKind.TheVariants.{Equal}
 use Rattle.ms_grammar.specs.declared.part.ValuePart.{ValuePart}
-use Rattle.ms_grammar.specs.declared.statement.Form.{Form}
 use Rattle.ms_grammar.specs.declared.statement.Form.TheVariants.{Program, Const}
 use Rattle.ms_grammar.specs.Words.{Word, name, sign}
 use Rattle.ms_grammar.specs.Values.{value_words, value_part}
 use Rattle.ms_grammar.specs.Statements.{parameters_words, parameter_names}
 use Rattle.ms_parse.specs.Words.{name_in, parameters_in}
-use Rattle.ms_parse.specs.Content.{IsProgramLine, ProgramLine, IsConstLine, ConstLine, IsValue}
+use Rattle.ms_parse.specs.Content.{IsProgramLine, ProgramLine, IsConstLine, IsValue}
 use Rattle.ms_parse.proofs.NameLemmas.{name_from_word, parameters_in-spelled, parameters_from}
 
 abbrev Differ : List (List ℕ) → Type 0
@@ -22,16 +21,16 @@ pub program_without_first : (w : Word) (ws : List Word) → name_in w ≡ None �
 program_without_first w ws e = record {
   sound = tt;
   complete = λ l form words spelled.
-    let word : name l.program_name ≡ w = cc in
-    absurd (let f : ⊥ = cc (ap name_in word) in f);
+      let word : name l.program_name ≡ w = cc in
+      absurd (let f : ⊥ = cc (ap name_in word) in f);
 }
 
 pub program_without_parameters : (w : Word) (ws : List Word) → parameters_in ws ≡ None → IsProgramLine (w ∷ ws) None
 program_without_parameters w ws e = record {
   sound = tt;
   complete = λ l form words spelled.
-    let rest : parameters_words l.params ≡ ws = cc in
-    absurd (let f : ⊥ = cc (ap parameters_in rest, parameters_in-spelled l.params) in f);
+      let rest : parameters_words l.params ≡ ws = cc in
+      absurd (let f : ⊥ = cc (ap parameters_in rest, parameters_in-spelled l.params) in f);
 }
 
 module _ (w : Word) (ws : List Word) (n : List ℕ) (names : List (List ℕ)) (named : name_in w ≡ Some n) (params : parameters_in ws ≡ Some names) where
@@ -57,9 +56,9 @@ module _ (w : Word) (ws : List Word) (n : List ℕ) (names : List (List ℕ)) (n
   program_not_apart alike = record {
     sound = tt;
     complete = λ l form words spelled.
-      let is = program_form l words in
-      let same : parameter_names l.params ≡ names = cc in
-      absurd (alike (subst Differ same l.differ));
+        let is = program_form l words in
+        let same : parameter_names l.params ≡ names = cc in
+        absurd (alike (subst Differ same l.differ));
   }
 
 pub const_without_name : (ws : List Word) → ws ≡ [] → IsConstLine ws None
@@ -75,8 +74,8 @@ pub const_without_first : (w : Word) (ws : List Word) → name_in w ≡ None →
 const_without_first w ws e = record {
   sound = tt;
   complete = λ l form words spelled.
-    let word : name l.constant ≡ w = cc in
-    absurd (let f : ⊥ = cc (ap name_in word) in f);
+      let word : name l.constant ≡ w = cc in
+      absurd (let f : ⊥ = cc (ap name_in word) in f);
 }
 
 -- a value that an option has, where another of its values was mapped
@@ -88,9 +87,9 @@ pub const_without_value : (w : Word) (ws : List Word) → IsValue ws None → Is
 const_without_value w ws h = record {
   sound = tt;
   complete = λ l form words spelled.
-    let p = part_from (λ p. Const l.constant p.value) (value_part l.spelling) form spelled in
-    let rest : value_words l.spelling ≡ ws = cc in
-    absurd (let f : ⊥ = cc (h.complete l.spelling p.0 rest p.1) in f);
+      let p = part_from (λ p. Const l.constant p.value) (value_part l.spelling) form spelled in
+      let rest : value_words l.spelling ≡ ws = cc in
+      absurd (let f : ⊥ = cc (h.complete l.spelling p.0 rest p.1) in f);
 }
 
 pub const_found : (w : Word) (ws : List Word) (n : List ℕ) (part : ValuePart) → name_in w ≡ Some n → IsValue ws (Some part) → IsConstLine (w ∷ sign Equal ∷ ws) (Some (Const n part.value))
@@ -101,11 +100,11 @@ const_found w ws n part named h = record {
     spells = rw h.sound.spells refl;
   };
   complete = λ l form words spelled.
-    let p = part_from (λ p. Const l.constant p.value) (value_part l.spelling) form spelled in
-    let rest : value_words l.spelling ≡ ws = cc in
-    let word : name l.constant ≡ w = cc in
-    let found = h.complete l.spelling p.0 rest p.1 in
-    let same : part ≡ p.0 = cc in
-    let named' : n ≡ l.constant = cc (ap name_in word) in
-    ap Some (ap (λ m. Const m part.value) named' ∙ ap (λ (q : ValuePart). Const l.constant q.value) same ∙ p.2);
+      let p = part_from (λ p. Const l.constant p.value) (value_part l.spelling) form spelled in
+      let rest : value_words l.spelling ≡ ws = cc in
+      let word : name l.constant ≡ w = cc in
+      let found = h.complete l.spelling p.0 rest p.1 in
+      let same : part ≡ p.0 = cc in
+      let named' : n ≡ l.constant = cc (ap name_in word) in
+      ap Some (ap (λ m. Const m part.value) named' ∙ ap (λ (q : ValuePart). Const l.constant q.value) same ∙ p.2);
 }

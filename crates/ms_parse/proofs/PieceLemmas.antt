@@ -70,3 +70,11 @@ first_piece-cons t ts = record {
 pub first_piece : (ts piece after : List Token) (n : ℕ) → (length ts == 0) ≡ false → n ≡ piece_len ts → piece ≡ take n ts → after ≡ drop n ts → IsFirstPiece ts piece after
 first_piece [] piece after n e p q r = cc
 first_piece (t ∷ ts) piece after n e p q r = rw (q, r, p) (first_piece-cons t ts)
+
+-- what the test for a dot tells
+pub kind_of_dot : (kind : TokenKind) → is_dot kind ≡ true → kind ≡ Dot
+kind_of_dot Dot e = refl
+kind_of_dot _ e = cc
+
+pub other_kind : (kind : TokenKind) → is_dot kind ≡ false → kind ≡ Dot → ⊥
+other_kind kind e dot = let f : ⊥ = cc (ap is_dot dot) in f

@@ -1,5 +1,5 @@
 -- Statement after statement, up to the end or to a piece that is none.
-use Rattle.std.proofs.Common.{◌≡◌, ℕ, ◌≤◌, List, [], ◌∷◌, ◌++◌, length, Option, Some, None, refl, sym, ap, ◌∙◌, subst, inl, inr, append-nil, append_assoc}
+use Rattle.std.proofs.Common.{◌≡◌, ℕ, List, [], ◌∷◌, ◌++◌, length, Option, Some, None, refl, sym, ap, ◌∙◌, subst, inl, inr, append-nil, append_assoc}
 use Rattle.std.proofs.lemmas.List.{drop_at}
 use Rattle.std.proofs.lemmas.List.Elements.{All-drop}
 use Rattle.ms_text.specs.declared.token.Token.{Token}
@@ -103,10 +103,10 @@ module _ (text : List ℕ) (tokens : List Token) (statements : List Statement) (
   pub statements_at_end : rest ≡ [] → AreExactly text (pieces_of tokens) statements
   statements_at_end e = record {
     are = let P : List Statement → Type 0 = λ ss. AreStatements text (pieces_of tokens) ss in
-      subst P (append-nil statements) (read.goes_on [] (nothing_left e));
+        subst P (append-nil statements) (read.goes_on [] (nothing_left e));
     only = λ others h.
-      let g = read.only others h in
-      g.joined ∙ ap (λ ss. statements ++ ss) (no_statements text rest g.more e g.are) ∙ append-nil statements;
+        let g = read.only others h in
+        g.joined ∙ ap (λ ss. statements ++ ss) (no_statements text rest g.more e g.are) ∙ append-nil statements;
   }
 
   -- the next piece is no statement

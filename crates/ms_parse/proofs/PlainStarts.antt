@@ -1,8 +1,8 @@
 -- Rules don't begin with the word of a directive.
-use Rattle.std.proofs.Common.{◌≡◌, ℕ, Bool, true, false, List, [], ◌∷◌, ◌++◌, Option, Some, None, refl, append_assoc}
+use Rattle.std.proofs.Common.{◌≡◌, Bool, true, false, List, [], ◌∷◌, ◌++◌, Option, Some, None, refl, append_assoc}
 use Rattle.std.specs.Bool.{⊤}
 use Rattle.ms_text.specs.declared.token.TokenKind.TheVariants.{Program, External, Const, Show, Include}
-use Rattle.ms_grammar.specs.Words.{Word, name, sign}
+use Rattle.ms_grammar.specs.Words.{Word, sign}
 use Rattle.ms_grammar.specs.Terms.{Primary, numeral, string, constant, function, parenthesis, absolute, primary_words, Unary, primary, negative, least, unary_words, Product, unary, times, over, modulo, product_words, Sum, product, plus, minus, sum_words, Term, single, interval, term_words}
 use Rattle.ms_grammar.specs.Statements.{plain, applied, Guard, bare, signed, left_words, Choice, choice_words, HeadPart, no_head, atom_head, choice_head, head_words, Tail, no_tail, empty_tail, tail, tail_words}
 

@@ -1,12 +1,13 @@
 -- Rules, from their heads and what follows them.
-use Rattle.std.proofs.Common.{◌≡◌, ℕ, List, [], ◌∷◌, ◌++◌, Option, Some, None, refl, sym, ap, ◌∙◌, subst}
+use Rattle.std.proofs.Common.{◌≡◌, List, [], ◌++◌, Option, Some, None, refl, sym, ap, ◌∙◌}
+use Rattle.std.specs.Option.{option_map}
 use Rattle.ms_grammar.specs.declared.statement.Head.{Head as HeadForm}
 use Rattle.ms_grammar.specs.declared.statement.Form.{Form}
 use Rattle.ms_grammar.specs.declared.statement.Form.TheVariants.{Rule}
 use Rattle.ms_grammar.specs.declared.part.Counted.{Counted}
-use Rattle.ms_grammar.specs.Words.{Word, sign}
+use Rattle.ms_grammar.specs.Words.{Word}
 use Rattle.ms_grammar.specs.Reading.{EndsPart}
-use Rattle.ms_grammar.specs.Statements.{Atom, plain, applied, HeadPart, no_head, atom_head, choice_head, head_words, head_spelled, Tail, no_tail, empty_tail, tail, tail_words, tail_spelled, rule_spelled, join, beside}
+use Rattle.ms_grammar.specs.Statements.{plain, applied, HeadPart, no_head, atom_head, choice_head, head_words, head_spelled, Tail, no_tail, empty_tail, tail, tail_words, tail_spelled, rule_spelled, join, beside}
 use Rattle.ms_parse.specs.Content.{IsTail, IsRule}
 use Rattle.ms_parse.proofs.Fronts.{IsSplit, HasNone}
 use Rattle.ms_parse.proofs.Copies.{AreBoth, both_from_join}
@@ -47,8 +48,8 @@ pub rule_without_head : (ws : List Word) → HasNoHead ws → IsRule ws None
 rule_without_head ws none = record {
   sound = tt;
   complete = λ r whole words spelled.
-    let p = rule_parts r.0 r.1 whole spelled in
-    absurd (none r.0 (tail_words r.1) p.left (sym words) (ends_at_tail r.1) p.left_is);
+      let p = rule_parts r.0 r.1 whole spelled in
+      absurd (none r.0 (tail_words r.1) p.left (sym words) (ends_at_tail r.1) p.left_is);
 }
 
 module _ (ws : List Word) (head : Counted HeadForm) (after : List Word) (split : IsHeadSplit ws head after) where
@@ -74,8 +75,8 @@ module _ (ws : List Word) (head : Counted HeadForm) (after : List Word) (split :
   rule_without_tail none = record {
     sound = tt;
     complete = λ r whole words spelled.
-      let p = has_head r.0 r.1 whole words spelled in
-      absurd (let f : ⊥ = cc (none.complete r.1 p.body p.after_is p.body_is) in f);
+        let p = has_head r.0 r.1 whole words spelled in
+        absurd (let f : ⊥ = cc (none.complete r.1 p.body p.after_is p.body_is) in f);
   }
 
   pub rule_found : (ws ≡ [] → ⊥) → (body : Parts) → IsTail after (Some body) → IsRule ws (Some (beside Rule head body))
@@ -89,7 +90,11 @@ module _ (ws : List Word) (head : Counted HeadForm) (after : List Word) (split :
           spells = rule_spelled-join split.derivation t (λ e. some (sym words ∙ e)) ∙ rw (split.spells, h.sound.spells) refl;
         };
         complete = λ r whole words spelled.
-          let p = has_head r.0 r.1 whole words spelled in
-          let same : body ≡ p.body = cc (h.complete r.1 p.body p.after_is p.body_is) in
-          ap Some (ap (λ (x : Parts). beside Rule head x) same ∙ sym p.whole_is);
+            let p = has_head r.0 r.1 whole words spelled in
+            let same : body ≡ p.body = cc (h.complete r.1 p.body p.after_is p.body_is) in
+            ap Some (ap (λ (x : Parts). beside Rule head x) same ∙ sym p.whole_is);
       }
+
+  pub rule_from_tail : (ws ≡ [] → ⊥) → (found : Option Parts) → IsTail after found → IsRule ws (option_map (beside Rule head) found)
+  rule_from_tail some None h = rule_without_tail h
+  rule_from_tail some (Some body) h = rule_found some body h

@@ -1,5 +1,5 @@
 -- A piece is a statement just where what stands before its dot is one.
-use Rattle.std.proofs.Common.{◌≡◌, ℕ, suc, ◌*◌, ◌≤◌, nat_le, cond, Bool, true, false, List, [], ◌∷◌, ◌++◌, map, Option, Some, None, IfSome, refl, sym, ap, ◌∙◌, subst}
+use Rattle.std.proofs.Common.{◌≡◌, ℕ, suc, ◌*◌, nat_le, cond, Bool, true, false, List, [], ◌∷◌, ◌++◌, Option, Some, None, IfSome, refl, sym, ap, ◌∙◌}
 use Rattle.std.proofs.lemmas.Bool.{leb-true, le-leb}
 use Rattle.std.proofs.lemmas.List.{map-append, same_from_push}
 use Rattle.ms_text.specs.declared.token.Token.{Token}
@@ -7,9 +7,9 @@ use Rattle.ms_text.specs.declared.token.TokenKind.TheVariants.{Dot}
 use Rattle.ms_grammar.specs.declared.statement.Form.{Form}
 use Rattle.ms_grammar.specs.declared.statement.Statement.{Statement}
 use Rattle.ms_grammar.specs.declared.part.Counted.{Counted}
-use Rattle.ms_grammar.specs.Words.{Word, sign, word_of, words_of}
+use Rattle.ms_grammar.specs.Words.{sign, word_of, words_of}
 use Rattle.ms_grammar.specs.Terms.{most_choices}
-use Rattle.ms_grammar.specs.Statements.{Sentence, rule, program, external, const, show, show_none, include, sentence_words, sentence_spelled, Spells, IsStatement, first_line, HasFewCopies}
+use Rattle.ms_grammar.specs.Statements.{Sentence, rule, program, external, const, show, show_none, include, sentence_words, sentence_spelled, IsStatement, first_line, HasFewCopies}
 use Rattle.ms_parse.specs.Content.{IsSpelled, IsContent, content_words, statement_from}
 use Rattle.ms_parse.proofs.SignLemmas.{sign_from_kind, kind_from_sign}
 use Rattle.ms_parse.proofs.Tails.{nonempty}

@@ -1,5 +1,5 @@
 -- What may follow a head.
-use Rattle.std.proofs.Common.{◌≡◌, ℕ, Bool, true, false, List, [], ◌∷◌, ◌++◌, Option, Some, None, IfSome, refl, sym, ap, ◌∙◌}
+use Rattle.std.proofs.Common.{◌≡◌, List, [], ◌∷◌, ◌++◌, Option, Some, None, IfSome, refl, sym, ◌∙◌}
 use Rattle.ms_text.specs.declared.token.TokenKind.TheVariants.{If}
 use Rattle.ms_grammar.specs.Words.{Word, sign}
 use Rattle.ms_grammar.specs.Reading.{EndsPart}

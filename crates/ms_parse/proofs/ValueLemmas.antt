@@ -1,5 +1,5 @@
 -- The longest value at a place, from the longest front of the words from there.
-use Rattle.std.proofs.Common.{◌≡◌, ℕ, ◌+◌, ◌-◌, ◌<◌, ◌≤◌, List, [], ◌∷◌, ◌++◌, length, take, drop, slice_range, Option, Some, None, IfSome, IsSomeAnd, refl, sym, ap, ◌∙◌, subst, take-append-drop, length-drop, arith}
+use Rattle.std.proofs.Common.{◌≡◌, ℕ, ◌+◌, ◌-◌, ◌≤◌, List, [], length, take, drop, slice_range, Option, Some, None, IfSome, IsSomeAnd, refl, sym, ap, ◌∙◌, length-drop, arith}
 use Rattle.std.specs.Option.{option_map}
 use Rattle.std.proofs.lemmas.List.{length-map, take-map}
 use Rattle.ms_text.specs.declared.token.Token.{Token}
@@ -8,7 +8,7 @@ use Rattle.ms_grammar.specs.Words.{Word, word_of, words_of}
 use Rattle.ms_grammar.specs.Values.{Spelling, numeral, negative, string, constant, no_arguments, function, empty_tuple, tuple, tuple_comma, value_words, value_part}
 use Rattle.ms_grammar.specs.Reading.{IsFront, IsLongest}
 use Rattle.ms_parse.specs.declared.ValueAt.{ValueAt}
-use Rattle.ms_parse.specs.ValuesAt.{SpellsValue, IsLongestFrom}
+use Rattle.ms_parse.specs.ValuesAt.{value_at, SpellsValue, IsLongestFrom}
 
 some_word : (v : Spelling) → value_words v ≡ [] → ⊥
 some_word (numeral n) e = cc
@@ -26,7 +26,7 @@ IsValueFront = IsFront Spelling ValuePart value_words value_part
 
 -- what was found, by its place
 abbrev pub place : ℕ → ValuePart × ℕ → ValueAt
-place from found = record { value = found.0.value; next = from + found.1 }
+place from found = value_at found.0 (from + found.1)
 
 module _ (text : List ℕ) (tokens : List Token) (from : ℕ) (begins : from ≤ length tokens) where
   abbrev words_from : List Word
@@ -70,13 +70,25 @@ module _ (text : List ℕ) (tokens : List Token) (from : ℕ) (begins : from ≤
 
   longest_place : (o : Option (ValuePart × ℕ)) (other : ValueAt) (s : SpellsValue text tokens from other) → IsSomeAnd o (λ f. (other.next - from ≤ f.1) × (other.next - from ≡ f.1 → s.part ≡ f.0)) → IsSomeAnd (option_map (place from) o) (λ f. (other.next ≤ f.next) × (other.next ≡ f.next → other.value ≡ f.value))
   longest_place None other s h = absurd h
-  longest_place (Some f) other s h =
-      (omega (arith, h.0, s.after), λ e.
+  longest_place (Some f) other s h = (
+    omega (arith, h.0, s.after),
+    λ e.
         let same : other.next - from ≡ f.1 = omega (arith, e) in
-        sym s.value_is ∙ ap (λ (p : ValuePart). p.value) (h.1 same))
+        sym s.value_is ∙ ap (λ (p : ValuePart). p.value) (h.1 same),
+  )
 
   pub longest_from : (found : Option (ValuePart × ℕ)) → IsLongest Spelling ValuePart value_words value_part words_from found → IsLongestFrom text tokens from (option_map (place from) found)
   longest_from found h = record {
     sound = sound_place found h.sound;
     longest = λ other s. longest_place found other s (h.longest s.part (other.next - from) (front_from_spells other s));
   }
+
+  -- the place after the value is one of the tokens' or their end
+  pub next_within : (part : ValuePart) (n : ℕ) (found : Option (ValuePart × ℕ)) → found ≡ Some (part, n) → IsLongest Spelling ValuePart value_words value_part words_from found → from + n ≤ length tokens
+  next_within part n found is h = let front = rw is at h.sound in omega (arith, front.within, words_len)
+
+  pub longest_some : (part : ValuePart) (n : ℕ) (found : Option (ValuePart × ℕ)) → found ≡ Some (part, n) → IsLongest Spelling ValuePart value_words value_part words_from found → IsLongestFrom text tokens from (Some (place from (part, n)))
+  longest_some part n found is h = rw is at (longest_from found h)
+
+  pub longest_none : (found : Option (ValuePart × ℕ)) → found ≡ None → IsLongest Spelling ValuePart value_words value_part words_from found → IsLongestFrom text tokens from None
+  longest_none found is h = rw is at (longest_from found h)

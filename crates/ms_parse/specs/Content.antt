@@ -1,6 +1,6 @@
 -- What stands before the dot of a statement, and what readers of all of the words find.
 use Rattle.std.specs.Prelude.{ℕ, suc, ◌*◌, ◌≢◌, ◌≡◌, nat_le, ◌==◌, if◌then◌else◌, List, [], ◌∷◌, ◌++◌, Option, Some, None, IfSome, AllPairs, codes}
-use Rattle.std.specs.Option.{option_map, option_and_then}
+use Rattle.std.specs.Option.{option_map}
 use Rattle.ms_text.specs.declared.token.TokenKind.TheVariants.{Program, External, Const, Show, Include, Slash, Less, Greater, Equal}
 use Rattle.ms_grammar.specs.declared.term.TextTerm.{TextTerm}
 use Rattle.ms_grammar.specs.declared.statement.BodyLit.{BodyLit}

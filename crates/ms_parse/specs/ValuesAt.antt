@@ -1,10 +1,13 @@
 -- The values that begin at a token of a text.
-use Rattle.std.specs.Prelude.{ℕ, ◌≡◌, ◌≤◌, ◌<◌, ◌+◌, List, drop, length, slice_range, Option, Some, IfSome, IsSomeAnd}
+use Rattle.std.specs.Prelude.{ℕ, ◌≡◌, ◌≤◌, ◌<◌, List, length, slice_range, Option, Some, IfSome, IsSomeAnd}
 use Rattle.ms_text.specs.declared.token.Token.{Token}
 use Rattle.ms_grammar.specs.declared.part.ValuePart.{ValuePart}
 use Rattle.ms_grammar.specs.Words.{words_of}
 use Rattle.ms_grammar.specs.Values.{Spelling, value_words, value_part}
 use Rattle.ms_parse.specs.declared.ValueAt.{ValueAt}
+
+abbrev pub value_at : ValuePart → ℕ → ValueAt
+value_at part next = record { value = part.value; next = next }
 
 -- The tokens from one place to before another spell the value.
 pub record SpellsValue (text : List ℕ) (tokens : List Token) (from : ℕ) (found : ValueAt) : Type 0 where

@@ -4,7 +4,7 @@
 ghost use Rattle.std.specs.Prelude.{◌≡◌, ◌≤◌, length, IfOk};
 ghost use Rattle.ms_text.specs.Tokens.{LieWithin};
 ghost use Rattle.ms_parse.specs.Gives.{Gives};
-ghost use Rattle.ms_parse.specs.ValuesAt.{IsLongestFrom};
+ghost use Rattle.ms_parse.specs.ValuesAt.{IsLongestFrom, value_at};
 
 mod counts;
 mod directive;
@@ -19,6 +19,7 @@ use crate::piece::{line_of, split_piece};
 use crate::statement::read_statement;
 pub use ms_base::memory::OutOfMemory;
 use ms_base::seq::Seq;
+use ms_grammar::part::ValuePart;
 pub use ms_grammar::statement::{Form, Statement, Statements};
 pub use ms_grammar::value::Value;
 use ms_lex::Tokens;
@@ -91,11 +92,20 @@ pub fn read_value(
     requires begins { from ≤ length tokens.now }
     ensures longest { IfOk result (IsLongestFrom text.now tokens.now from) }
 {
-    let found = read_front(alloc, text, &tokens.as_slice()[from..])?;
-    Ok(found.map(|(part, count)| ValueAt {
+    let (_, rest) = tokens.as_slice().split_at(from);
+    match read_front(alloc, text, rest)? {
+        Some((part, count)) => Ok(Some(value_at(part, from + count))),
+        None => Ok(None),
+    }
+}
+
+fn value_at(part: ValuePart, next: usize) -> ValueAt
+    ensures { result ≡ value_at part next }
+{
+    ValueAt {
         value: part.value,
-        next: from + count,
-    }))
+        next,
+    }
 }
 
 #[cfg(test)]

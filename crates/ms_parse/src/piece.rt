@@ -32,6 +32,13 @@ fn dot_place(tokens: &[Token]) -> Option<usize>
         .position(|token| matches!(token.kind, TokenKind::Dot))
 }
 
+/// Whether the token is a dot.
+pub(crate) fn is_dot(token: &Token) -> bool
+    ensures { result ≡ is_dot token.now.kind }
+{
+    matches!(token.kind, TokenKind::Dot)
+}
+
 /// The line of the first token.
 pub(crate) fn line_of(piece: &[Token]) -> u64
     ensures { result ≡ first_line piece.now }

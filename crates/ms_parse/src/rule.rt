@@ -1,5 +1,6 @@
 // Rules.
 ghost use Rattle.std.specs.Prelude.{◌≡◌, [], length, IfOk, MatchOption};
+ghost use Rattle.std.specs.Option.{option_map};
 ghost use Rattle.ms_text.specs.Tokens.{LieWithin};
 ghost use Rattle.ms_grammar.specs.Words.{words_of};
 ghost use Rattle.ms_grammar.specs.declared.statement.Form.TheVariants.{Rule};
@@ -32,23 +33,24 @@ pub(crate) fn read_rule(
     let Some((head, count)) = read_head(alloc, text, tokens)? else {
         return Ok(None);
     };
-    let Some(body) = read_tail(alloc, text, &tokens[count..])? else {
-        return Ok(None);
-    };
-    Ok(Some(rule_of(head, body)))
+    let (_, after) = tokens.split_at(count);
+    let body = read_tail(alloc, text, after)?;
+    Ok(rule_of(head, body))
 }
 
-fn rule_of(head: Counted<Head>, body: Counted<BodyLits>) -> Counted<Form>
-    ensures { result ≡ beside Rule head body }
+// The head with what follows it, where that is read.
+fn rule_of(head: Counted<Head>, body: Option<Counted<BodyLits>>) -> Option<Counted<Form>>
+    ensures { result ≡ option_map (beside Rule head) body }
 {
-    Counted {
+    let body = body?;
+    Some(Counted {
         choices: more_choices(head.choices, body.choices),
         elements: more_elements(head.elements, body.elements),
         value: Form::Rule {
             head: head.value,
             body: body.value,
         },
-    }
+    })
 }
 
 // The body after a head: none where nothing follows, and an empty one behind `:-` alone.
@@ -88,7 +90,7 @@ fn read_body(
             return Ok(None);
         };
         body = with_part(body, part)?;
-        let after = &rest[count..];
+        let (_, after) = rest.split_at(count);
         if after.is_empty() {
             return Ok(Some(body));
         }

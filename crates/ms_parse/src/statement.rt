@@ -9,7 +9,7 @@ ghost use Rattle.ms_parse.specs.Content.{IsContent, statement_from};
 
 use crate::counts::has_few_copies;
 use crate::directive::{is_incmode, read_const, read_external, read_show};
-use crate::piece::line_of;
+use crate::piece::{is_dot, line_of};
 use crate::program::read_program;
 use crate::rule::read_rule;
 use ms_base::memory::OutOfMemory;
@@ -33,7 +33,7 @@ pub(crate) fn read_statement(
     let Some((last, content)) = piece.split_last() else {
         return Ok(None);
     };
-    if !matches!(last.kind, TokenKind::Dot) {
+    if !is_dot(last) {
         return Ok(None);
     }
     let found = read_content(alloc, text, content)?;

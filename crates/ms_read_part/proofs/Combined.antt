@@ -1,5 +1,5 @@
 -- Readers put together from readers.
-use Rattle.std.proofs.Common.{◌≡◌, List, [], ◌∷◌, ◌++◌, drop, Option, Some, None, refl, sym, ap, ◌∙◌, append_assoc}
+use Rattle.std.proofs.Common.{◌≡◌, List, [], ◌∷◌, ◌++◌, drop, Option, Some, None, Result, Ok, Err, IfOk, refl, sym, ap, ◌∙◌, append_assoc}
 use Rattle.std.specs.Option.{option_map, option_and_then, IfSome}
 use Rattle.ms_text.specs.declared.token.TokenKind.{TokenKind}
 use Rattle.ms_grammar.specs.Words.{Word, sign}
@@ -10,6 +10,16 @@ use Rattle.ms_read_part.specs.Pieces.{words_then, spelled_then}
 IfSome-more : {T : Type 0} (P Q : T → Type 0) (o : Option T) → ((x : T) → P x → Q x) → IfSome o P → IfSome o Q
 IfSome-more P Q None h p = tt
 IfSome-more P Q (Some x) h p = h x p
+
+pub IfOk-more : {T E : Type 0} (P Q : T → Type 0) (r : Result T E) → ((x : T) → P x → Q x) → IfOk r P → IfOk r Q
+IfOk-more P Q (Ok x) h p = h x p
+IfOk-more P Q (Err e) h p = tt
+
+pub some-parts : {T : Type 0} {a b : T} → Some a ≡ Some b → a ≡ b
+some-parts e = cc
+
+pub none-some : {T : Type 0} {a : T} → None ≡ Some a → ⊥
+none-some e = cc
 
 pub found-parts : {V W : Type 0} {a c : V} {b d : W} → ◌≡◌ {A = Option (V × W)} (Some (a, b)) (Some (c, d)) → (a ≡ c) × (b ≡ d)
 found-parts {V} {W} {a} {c} {b} {d} e =

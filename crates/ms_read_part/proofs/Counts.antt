@@ -1,6 +1,6 @@
 -- Laws of counting up to a bound.
 use Rattle.std.proofs.Common.{◌≡◌, ◌≤◌, ◌<◌, ◌⊎◌, ℕ, zero, suc, ◌+◌, ◌*◌, min, List, [], ◌∷◌, ◌++◌, refl, sym, ap, ◌∙◌, arith, inl, inr, append_assoc}
-use Rattle.std.proofs.Math.Nat.{mul_assoc, mul_comm, mul-one, one-mul}
+use Rattle.std.proofs.Math.Nat.{mul_assoc, mul_comm, mul-one, one-mul, zero-mul}
 use Rattle.std.proofs.lemmas.Nat.{mul-le}
 use Rattle.std.proofs.lemmas.Bool.{cases_lt}
 use Rattle.ms_grammar.specs.declared.part.Counted.{Counted}
@@ -20,7 +20,7 @@ capped-large a b h =
 -- a product with what is counted
 capped-by : (a b : ℕ) → (b < 10001) ⊎ (10001 ≤ b) → counted (a * counted b) ≡ counted (a * b)
 capped-by a b (inl h) = capped-small a b h
-capped-by zero b (inr h) = refl
+capped-by zero b (inr h) = ap counted (zero-mul (counted b) ∙ sym (zero-mul b))
 capped-by (suc a) b (inr h) = capped-large a b h
 
 product-capped : (a b : ℕ) → counted (a * counted b) ≡ counted (a * b)

@@ -4,10 +4,13 @@ use Rattle.ms_text.specs.declared.token.TokenKind.{TokenKind}
 use Rattle.ms_text.specs.declared.token.TokenKind.TheVariants.{Name, Not, Number, Text, LeftParen, Bar, Minus, Comma, Semicolon, Colon, If, Dot, LeftBrace, RightBrace, Count, Sum as SumKind, Equal, EqualEqual, NotEqual, LessGreater, Less, LessEqual, Greater, GreaterEqual}
 use Rattle.ms_grammar.specs.Words.{Word, name, number, quoted, sign}
 use Rattle.ms_grammar.specs.Terms.{Term, single, interval, Sum, product, plus, minus, Product, unary, times, over, modulo, Unary, primary, negative, least, Primary, numeral, string, constant, function, parenthesis, absolute, term_words, sum_words, product_words, unary_words, primary_words}
+use Rattle.ms_grammar.specs.declared.statement.Cmp.{Cmp}
+use Rattle.ms_grammar.specs.Statements.{Atom, plain, applied, atom_words, cmp_of}
 use Rattle.ms_grammar.specs.Reading.{EndsTerm, EndsPart, carries_on, ends_part}
+use Rattle.ms_read_part.proofs.Combined.{and_then-some}
 use Rattle.ms_read_part.specs.Kinds.{kind_of, front_kind, cmp_at, ends_at, ends_element, ends_tuple, opened_by, EndsElement, EndsTuple}
 
-abbrev is_sign : TokenKind → Bool
+abbrev pub is_sign : TokenKind → Bool
 is_sign Name = false
 is_sign Number = false
 is_sign Text = false
@@ -124,3 +127,93 @@ EndsPart-term (sign k ∷ ws) h = ends_part-carries k h
 EndsPart-term (name s ∷ ws) h = tt
 EndsPart-term (number s ∷ ws) h = tt
 EndsPart-term (quoted s ∷ ws) h = tt
+
+pub term_leads : (t : Term) (more ws : List Word) → ws ≡ term_words t ++ more → begins_term (front_kind ws) ≡ true
+term_leads t more ws e = ap (λ x. begins_term (front_kind x)) e ∙ term_begins t more
+
+pub atom_front : (a : Atom) (more : List Word) → front_kind (atom_words a ++ more) ≡ Some Name
+atom_front (plain f) more = refl
+atom_front (applied f lists) more = refl
+
+-- comparisons
+pub cmp-sign : (kind : TokenKind) (cmp : Cmp) → cmp_of kind ≡ Some cmp → is_sign kind ≡ true
+cmp-sign Equal cmp e = refl
+cmp-sign EqualEqual cmp e = refl
+cmp-sign NotEqual cmp e = refl
+cmp-sign LessGreater cmp e = refl
+cmp-sign Less cmp e = refl
+cmp-sign LessEqual cmp e = refl
+cmp-sign Greater cmp e = refl
+cmp-sign GreaterEqual cmp e = refl
+cmp-sign _ cmp e = absurd (let false' : ⊥ = cc in false')
+
+pub cmp-carries : (kind : TokenKind) (cmp : Cmp) → cmp_of kind ≡ Some cmp → carries_on kind ≡ false
+cmp-carries Equal cmp e = refl
+cmp-carries EqualEqual cmp e = refl
+cmp-carries NotEqual cmp e = refl
+cmp-carries LessGreater cmp e = refl
+cmp-carries Less cmp e = refl
+cmp-carries LessEqual cmp e = refl
+cmp-carries Greater cmp e = refl
+cmp-carries GreaterEqual cmp e = refl
+cmp-carries _ cmp e = absurd (let false' : ⊥ = cc in false')
+
+pub cmp-ends : (kind : TokenKind) (cmp : Cmp) → cmp_of kind ≡ Some cmp → ends_part kind ≡ false
+cmp-ends Equal cmp e = refl
+cmp-ends EqualEqual cmp e = refl
+cmp-ends NotEqual cmp e = refl
+cmp-ends LessGreater cmp e = refl
+cmp-ends Less cmp e = refl
+cmp-ends LessEqual cmp e = refl
+cmp-ends Greater cmp e = refl
+cmp-ends GreaterEqual cmp e = refl
+cmp-ends _ cmp e = absurd (let false' : ⊥ = cc in false')
+
+-- the comparison at the front, with its kind
+pub cmp_front : (ws : List Word) (cmp : Cmp) → cmp_at (front_kind ws) ≡ Some cmp → (kind : TokenKind) × (front_kind ws ≡ Some kind) × (cmp_of kind ≡ Some cmp) × (ws ≡ sign kind ∷ drop 1 ws)
+cmp_front ws cmp e =
+    let k = and_then-some cmp_of (front_kind ws) cmp e in
+    (k.0, k.1, k.2, front-sign k.0 ws (cmp-sign k.0 cmp k.2) k.1)
+
+-- what may follow a part is no comparison
+pub cmp_not_end : (ws rest : List Word) (cmp : Cmp) → cmp_at (front_kind ws) ≡ Some cmp → ws ≡ rest → EndsPart rest → ⊥
+cmp_not_end ws rest cmp e same ends =
+    let k = cmp_front ws cmp e in
+    let at : ends_at (front_kind ws) ≡ true = ap (λ x. ends_at (front_kind x)) same ∙ EndsPart-at rest ends in
+    let not_at : ends_at (front_kind ws) ≡ false = ap ends_at k.1 ∙ cmp-ends k.0 cmp k.2 in
+    (let false' : ⊥ = cc in false')
+
+-- what may follow elements and tuples may follow what is in them
+element-ends : (front : Option TokenKind) → ends_element front ≡ true → ends_at front ≡ true
+element-ends (Some Semicolon) h = refl
+element-ends (Some RightBrace) h = refl
+element-ends _ h = absurd (let false' : ⊥ = cc in false')
+
+element-tuple : (front : Option TokenKind) → ends_element front ≡ true → ends_tuple front ≡ true
+element-tuple (Some Semicolon) h = refl
+element-tuple (Some RightBrace) h = refl
+element-tuple _ h = absurd (let false' : ⊥ = cc in false')
+
+tuple-ends : (front : Option TokenKind) → ends_tuple front ≡ true → ends_at front ≡ true
+tuple-ends (Some Colon) h = refl
+tuple-ends (Some Semicolon) h = refl
+tuple-ends (Some RightBrace) h = refl
+tuple-ends _ h = absurd (let false' : ⊥ = cc in false')
+
+pub EndsElement-part : (ws : List Word) → EndsElement ws → EndsPart ws
+EndsElement-part ws h = EndsPart-from ws (element-ends (front_kind ws) h)
+
+pub EndsElement-tuple : (ws : List Word) → EndsElement ws → EndsTuple ws
+EndsElement-tuple ws h = element-tuple (front_kind ws) h
+
+pub EndsTuple-term : (ws : List Word) → EndsTuple ws → EndsTerm ws
+EndsTuple-term ws h = EndsPart-term ws (EndsPart-from ws (tuple-ends (front_kind ws) h))
+
+pub begins-element : (front : Option TokenKind) → begins_term front ≡ true → ends_element front ≡ false
+begins-element (Some Name) h = refl
+begins-element (Some Number) h = refl
+begins-element (Some Text) h = refl
+begins-element (Some LeftParen) h = refl
+begins-element (Some Bar) h = refl
+begins-element (Some Minus) h = refl
+begins-element _ h = absurd (let false' : ⊥ = cc in false')

@@ -5,3 +5,12 @@ pub mod Leads
 pub mod Atoms
 pub mod Counts
 pub mod Rowed
+pub mod Literals
+pub mod Rows
+pub mod Conditions
+pub mod Elements
+pub mod Groups
+pub mod Tails
+pub mod Parts
+pub mod Bodies
+pub mod Measured

@@ -8,14 +8,8 @@ use Rattle.ms_grammar.specs.Statements.{alone, row_of}
 use Rattle.ms_read_part.specs.Kinds.{front_kind}
 use Rattle.ms_read_part.specs.Cuts.{IsCut, Reads}
 use Rattle.ms_read_part.specs.Pieces.{row_words, row_spelled}
-use Rattle.ms_read_part.proofs.Combined.{Reads-none, both-some, both-is, found-parts}
+use Rattle.ms_read_part.proofs.Combined.{Reads-none, both-some, both-is, some-parts, none-some, found-parts}
 use Rattle.ms_read_part.proofs.Counts.{cons, push, append, append-push, append-last, append-none}
-
-some-parts : {T : Type 0} {a b : T} → Some a ≡ Some b → a ≡ b
-some-parts e = cc
-
-none-some : {T : Type 0} {a : T} → None ≡ Some a → ⊥
-none-some e = cc
 
 abbrev pub prefixed : {T : Type 0} → Counted T → Option (Counted (List T) × List Word) → Option (Counted (List T) × List Word)
 prefixed x found = option_map (λ f. (cons x f.0, f.1)) found
@@ -34,11 +28,11 @@ pub record IsRow (D T : Type 0) (w : D → List Word) (s : D → Option (Counted
   pub reads : Reads (D × List D) (Counted (List T)) (row_words (sign between) w) (row_spelled s) F ws found
 
 -- what follows the first part of a row
-abbrev after_first : {D : Type 0} → (D → List Word) → TokenKind → List D → List Word → List Word
+abbrev pub after_first : {D : Type 0} → (D → List Word) → TokenKind → List D → List Word → List Word
 after_first w between [] rest = rest
 after_first w between (e ∷ es) rest = sign between ∷ (row_words (sign between) w (e, es) ++ rest)
 
-row-words : {D : Type 0} (w : D → List Word) (between : TokenKind) (d : D) (ds : List D) (rest : List Word) → row_words (sign between) w (d, ds) ++ rest ≡ w d ++ after_first w between ds rest
+pub row-words : {D : Type 0} (w : D → List Word) (between : TokenKind) (d : D) (ds : List D) (rest : List Word) → row_words (sign between) w (d, ds) ++ rest ≡ w d ++ after_first w between ds rest
 row-words w between d [] rest = refl
 row-words w between d (e ∷ es) rest = append_assoc (w d) (sign between ∷ row_words (sign between) w (e, es)) rest
 
@@ -78,7 +72,7 @@ module _ (D T : Type 0) (w : D → List Word) (s : D → Option (Counted T)) (be
   last-complete x mid none [] rest v part =
       let same = found-parts part.is in
       let nothing : alone [] ≡ part.more = some-parts part.spells in
-      rw (same.0, same.1, nothing, part.value) refl
+      ap (λ y. Some (cons y (alone []), mid)) same.0 ∙ ap (λ m. Some (cons part.first m, mid)) nothing ∙ ap (λ y. Some (y, mid)) part.value ∙ ap (λ r. Some (v, r)) same.1
   last-complete x mid none (e ∷ es) rest v part = let same = found-parts part.is in absurd (none (ap front_kind same.1))
 
   pub row_last : {ws mid : List Word} {x : Counted T} → Reads D (Counted T) w s E ws (Some (x, mid)) → front_kind mid ≢ Some between → IsRow D T w s between F ws (Some (cons x (alone []), mid))

@@ -35,6 +35,12 @@ opened_by (Some CountKind) = Some (Aggregate Count)
 opened_by (Some SumKind) = Some (Aggregate Sum)
 opened_by front = None
 
+abbrev pub opens : Option TokenKind → Bool
+opens (Some LeftBrace) = true
+opens (Some CountKind) = true
+opens (Some SumKind) = true
+opens front = false
+
 -- what may follow an element
 abbrev pub ends_element : Option TokenKind → Bool
 ends_element (Some Semicolon) = true

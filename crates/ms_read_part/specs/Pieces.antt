@@ -19,7 +19,7 @@ use Rattle.ms_grammar.specs.declared.statement.BodyLit.TheVariants.{Lit, Set as 
 use Rattle.ms_grammar.specs.declared.part.Counted.{Counted}
 use Rattle.ms_grammar.specs.Words.{Word, sign, separated}
 use Rattle.ms_grammar.specs.Terms.{Term, term_words, both}
-use Rattle.ms_grammar.specs.Statements.{alone, with_value, beside, join, row_of, bounded, term_spelled, cmp_of, SetPart, set_part_words, set_part_spelled, TuplePart, tuple_part_words, tuple_part_spelled, Guard, right_words, guard_spelled, function_kind, set_from, aggregate_from}
+use Rattle.ms_grammar.specs.Statements.{alone, with_value, beside, join, row_of, bounded, term_spelled, cmp_of, SetPart, set_part_words, set_part_spelled, TuplePart, tuple_part_words, tuple_part_spelled, Guard, right_words, guard_spelled, function_kind, set_from, aggregate_from, Choice, choice_words, choice_spelled, Aggregate, aggregate_words, aggregate_spelled}
 use Rattle.ms_read_part.specs.declared.term.Lead.{Lead}
 use Rattle.ms_read_part.specs.declared.group.Group.{Group}
 use Rattle.ms_read_part.specs.declared.group.Group.TheVariants.{Set, Agg}
@@ -166,16 +166,19 @@ led_spelled d = option_and_then (λ v. part_of v.0 v.1) (spelled_then lead_spell
 
 -- a part of a body without `not`
 pub data PlainPart : Type 0 where
-  unled : GroupPart × Option Guard → PlainPart
-  led : Term × TailPart → PlainPart
+  plain_literal : Term × Option (TokenKind × Term) → PlainPart
+  plain_choice : Choice → PlainPart
+  plain_aggregate : Aggregate → PlainPart
 
 abbrev pub plain_words : PlainPart → List Word
-plain_words (unled d) = guarded_words d
-plain_words (led d) = led_words d
+plain_words (plain_literal d) = plain_literal_words d
+plain_words (plain_choice s) = choice_words s
+plain_words (plain_aggregate a) = aggregate_words a
 
 abbrev pub plain_spelled : PlainPart → Option (Counted BodyLit)
-plain_spelled (unled d) = unled_spelled d
-plain_spelled (led d) = led_spelled d
+plain_spelled (plain_literal d) = option_map (with_value Lit) (plain_literal_spelled d)
+plain_spelled (plain_choice s) = option_map (with_value (BodySet false)) (choice_spelled s)
+plain_spelled (plain_aggregate a) = option_map (with_value (BodyAgg false)) (aggregate_spelled a)
 
 -- only an atom, a set or an aggregate may have `not` in front
 abbrev pub negated_part : BodyLit → Option BodyLit

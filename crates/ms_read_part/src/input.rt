@@ -4,7 +4,9 @@ ghost use Rattle.std.specs.Option.{option_map};
 ghost use Rattle.ms_text.specs.Tokens.{LieWithin};
 ghost use Rattle.ms_grammar.specs.Words.{Word, words_of};
 ghost use Rattle.ms_read_part.specs.Kinds.{front_kind};
+ghost use Rattle.ms_read_part.specs.Cuts.{ended};
 
+use crate::kinds::ends_at;
 use ms_base::memory::OutOfMemory;
 use ms_text::token::{Token, TokenKind};
 use std::alloc::Global;
@@ -118,5 +120,18 @@ impl<'a> Input<'a> {
             text,
             tokens: &tokens[len..],
         }
+    }
+}
+
+/// What was read of so many tokens, with the number of those that were read, where what is left may follow
+/// a part of a statement.
+pub(crate) fn ended<T: Drop>(found: Option<(T, Input)>, len: usize) -> Option<(T, usize)>
+    ensures { result ≡ ended len found.entry }
+{
+    let (value, rest) = found?;
+    if ends_at(rest.front()) {
+        Some((value, len.saturating_sub(rest.len())))
+    } else {
+        None
     }
 }

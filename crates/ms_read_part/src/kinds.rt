@@ -1,6 +1,6 @@
 // What the kind of a token begins or ends.
 ghost use Rattle.std.specs.Prelude.{◌≡◌};
-ghost use Rattle.ms_read_part.specs.Kinds.{cmp_at, ends_at, ends_element, opened_by};
+ghost use Rattle.ms_read_part.specs.Kinds.{cmp_at, ends_at, ends_element, opened_by, opens};
 
 use ms_grammar::statement::{AggFn, Cmp};
 use ms_text::token::TokenKind;
@@ -64,4 +64,14 @@ pub(crate) fn opened_by(front: Option<TokenKind>) -> Option<Opening>
         TokenKind::Sum => Some(Opening::Aggregate(AggFn::Sum)),
         _ => None,
     }
+}
+
+/// Whether the token opens a set or an aggregate.
+pub(crate) fn opens(front: Option<TokenKind>) -> bool
+    ensures { result ≡ opens front }
+{
+    matches!(
+        front,
+        Some(TokenKind::LeftBrace | TokenKind::Count | TokenKind::Sum)
+    )
 }

@@ -20,6 +20,7 @@ mod literal;
 mod part;
 mod term;
 
+use crate::input::{Input, ended};
 pub use ms_base::memory::OutOfMemory;
 use ms_grammar::part::Counted;
 use ms_grammar::statement::{BodyLit, Head};
@@ -37,7 +38,8 @@ pub fn read_atom(
     requires { LieWithin (length text.now) tokens.now }
     ensures { IfOk result (IsRead Atom (Counted TextTerm) atom_words atom_spelled EndsPart (words_of text.now tokens.now)) }
 {
-    Err(OutOfMemory)
+    let found = term::read_atom(Input::new(alloc, text, tokens))?;
+    Ok(ended(found, tokens.len()))
 }
 
 /// The literal, set or aggregate of a body at the front of the tokens, with the number of its tokens, exactly
@@ -50,7 +52,8 @@ pub fn read_body_part(
     requires { LieWithin (length text.now) tokens.now }
     ensures { IfOk result (IsRead BodyPart (Counted BodyLit) body_part_words body_part_spelled EndsPart (words_of text.now tokens.now)) }
 {
-    Err(OutOfMemory)
+    let found = part::read_part(Input::new(alloc, text, tokens))?;
+    Ok(ended(found, tokens.len()))
 }
 
 /// The head at the front of the tokens, with the number of its tokens, exactly where a front spells one and
@@ -63,5 +66,9 @@ pub fn read_head(
     requires { LieWithin (length text.now) tokens.now }
     ensures { IfOk result (IsRead HeadPart (Counted HeadForm) head_words head_spelled EndsPart (words_of text.now tokens.now)) }
 {
-    Err(OutOfMemory)
+    let found = part::read_head_form(Input::new(alloc, text, tokens))?;
+    Ok(ended(found, tokens.len()))
 }
+
+#[cfg(test)]
+mod tests;

@@ -16,7 +16,7 @@ ghost use Rattle.ms_read_part.specs.Cuts.{Reads};
 use crate::counted::{alone, beside};
 use crate::group::{Group, Guarded, guard, read_guarded};
 use crate::input::{Found, Input};
-use crate::kinds::{cmp_at, ends_at, opened_by};
+use crate::kinds::{cmp_at, ends_at, opens};
 use crate::literal::{Comparison, literal_of, negated_literal, read_comparison};
 use crate::term::{Lead, read_lead};
 use ms_grammar::part::Counted;
@@ -36,13 +36,13 @@ fn read_tail<'a>(input: Input<'a>) -> Found<'a, Tail>
     ensures { IfOk result (Reads TailPart Tail tail_words tail_spelled EndsPart input.entry) }
 {
     let front = input.front();
-    if opened_by(front).is_some() {
+    if opens(front) {
         return read_guarded_tail(Cmp::Le, input);
     }
     let Some(cmp) = cmp_at(front) else {
         return read_literal_tail(input);
     };
-    if opened_by(input.second()).is_some() {
+    if opens(input.second()) {
         read_guarded_tail(cmp, input.after_front())
     } else {
         read_literal_tail(input)
@@ -128,7 +128,7 @@ fn group_from(left: Option<TextGuard>, group: Group, right: Option<TextGuard>) -
 fn read_plain_part<'a>(input: Input<'a>) -> Found<'a, Counted<BodyLit>>
     ensures { IfOk result (Reads PlainPart (Counted BodyLit) plain_words plain_spelled EndsPart input.entry) }
 {
-    if opened_by(input.front()).is_some() {
+    if opens(input.front()) {
         read_unled(input)
     } else {
         read_led(input)

@@ -1,5 +1,5 @@
 -- The minuses before a part, one by one.
-use Rattle.std.proofs.Common.{◌≡◌, ℕ, zero, suc, ◌-◌, ◌<◌, Some, ap, ◌∙◌, sym, arith, refl}
+use Rattle.std.proofs.Common.{◌≡◌, ℕ, zero, suc, ◌-◌, ◌<◌, Some, ap, ◌∙◌, sym, arith}
 use Rattle.std.specs.Option.{option_and_then}
 use Rattle.ms_grammar.specs.declared.term.TextTerm.{Neg}
 use Rattle.ms_grammar.specs.declared.part.Part.{Part}

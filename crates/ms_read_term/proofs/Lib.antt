@@ -1,3 +1,9 @@
 mod Numbers
-mod Closings
 mod Strings
+mod Closings
+mod Running
+mod Complete
+mod Spelled
+mod Standing
+mod Sound
+mod Reading

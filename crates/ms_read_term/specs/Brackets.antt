@@ -6,7 +6,9 @@ use Rattle.ms_grammar.specs.declared.part.Part.{Part}
 use Rattle.ms_grammar.specs.declared.part.Row.{Row}
 use Rattle.ms_grammar.specs.declared.part.Rows.{Rows}
 use Rattle.ms_grammar.specs.Terms.{with_term, only_list, with_list, named, tuple_of, grouped, with_alternative, pooled}
+use Rattle.ms_read_term.specs.declared.level.Level.{Level}
 use Rattle.ms_read_term.specs.declared.bracket.Bracket.{Bracket}
+use Rattle.ms_read_term.specs.declared.bracket.Frame.{Frame}
 use Rattle.ms_read_term.specs.declared.bracket.Bracket.TheVariants.{Arguments, Parenthesis, Bar}
 
 -- the only term, or else the terms back
@@ -51,3 +53,23 @@ abbrev pub bracket_part : Bracket → Option Part
 bracket_part (Arguments name (Some rows)) = named name rows
 bracket_part (Parenthesis (Some alternatives)) = pooled alternatives.terms alternatives
 bracket_part bracket = None
+
+-- a bracket in which nothing stands behind it or its last `;`
+abbrev pub new_frame : Level → Bracket → Frame
+new_frame outside bracket = record { outside = outside; bracket = bracket; row = None }
+
+-- the frame with a term that a `,` ended, where the bracket has lists
+abbrev pub frame_with_in : Bracket → Frame → Part → Option Frame
+frame_with_in Bar frame t = None
+frame_with_in bracket frame t = Some (record frame { row = Some (with_term (row_so_far frame.row) t) })
+
+abbrev pub frame_with : Frame → Part → Option Frame
+frame_with frame t = frame_with_in frame.bracket frame t
+
+-- what stands before a bar, if the bracket is one
+abbrev pub outside_of_bar_in : Bracket → Level → Option Level
+outside_of_bar_in Bar outside = Some outside
+outside_of_bar_in bracket outside = None
+
+abbrev pub outside_of_bar : Frame → Option Level
+outside_of_bar frame = outside_of_bar_in frame.bracket frame.outside

@@ -1,12 +1,12 @@
 -- How a term is read, word by word.
-use Rattle.std.specs.Prelude.{ℕ, zero, suc, ◌==◌, ◌^◌, nat_le, nat_lt, pos, neg_ℤ, if◌then◌else◌, Bool, true, false, List, [], ◌∷◌, Option, Some, None}
-use Rattle.std.specs.Option.{option_and_then, is_some}
+use Rattle.std.specs.Prelude.{ℕ, zero, suc, ◌-◌, ◌==◌, ◌^◌, nat_le, nat_lt, pos, neg_ℤ, if◌then◌else◌, Bool, true, false, List, [], ◌∷◌, length, Option, Some, None}
+use Rattle.std.specs.Option.{is_some}
 use Rattle.ms_text.specs.declared.token.TokenKind.{TokenKind}
 use Rattle.ms_text.specs.declared.token.TokenKind.TheVariants.{Name, Number as NumberToken, Text as TextToken, Dot, DotDot, Comma, Semicolon, LeftParen, RightParen, Plus as PlusToken, Minus as MinusToken, Star, Slash, Backslash, Bar as BarToken}
 use Rattle.ms_grammar.specs.declared.term.TextTerm.{Number, Text, Function, Abs}
 use Rattle.ms_grammar.specs.declared.part.Part.{Part}
 use Rattle.ms_grammar.specs.Words.{Word, name, number, quoted, sign}
-use Rattle.ms_grammar.specs.Terms.{leaf, round, with_term, greatest_numeral}
+use Rattle.ms_grammar.specs.Terms.{leaf, round, greatest_numeral}
 use Rattle.ms_read_term.specs.declared.level.SumSign.{SumSign}
 use Rattle.ms_read_term.specs.declared.level.SumSign.TheVariants.{Plus, Minus}
 use Rattle.ms_read_term.specs.declared.level.ProductSign.{ProductSign}
@@ -21,7 +21,7 @@ use Rattle.ms_read_term.specs.declared.reader.Turn.{Turn}
 use Rattle.ms_read_term.specs.declared.reader.Turn.TheVariants.{Next, Found, Refused}
 use Rattle.ms_read_term.specs.declared.reader.Reader.{Reader}
 use Rattle.ms_read_term.specs.Closing.{negated, no_level, is_bare, closed_product, closed_sum, closed_term}
-use Rattle.ms_read_term.specs.Brackets.{row_so_far, ended_with, ended_bare, bracket_part}
+use Rattle.ms_read_term.specs.Brackets.{ended_with, ended_bare, bracket_part, new_frame, frame_with, outside_of_bar}
 
 -- What a word was: one of the term, after which the reader goes on, the first one behind the term, or one that no
 -- term goes on with.
@@ -47,9 +47,12 @@ wanted frames level = record { frames = frames; level = level; place = Wanted }
 abbrev pub at_start : Reader
 at_start = wanted [] no_level
 
--- behind a bracket or a semicolon
+-- in a bracket, behind the bracket, a `,` or a `;`
+abbrev pub reopened : List Frame → Frame → Outcome
+reopened frames frame = next (wanted (frame ∷ frames) no_level)
+
 abbrev pub opened : List Frame → Level → Bracket → Outcome
-opened frames outside bracket = next (wanted (record { outside = outside; bracket = bracket; row = None } ∷ frames) no_level)
+opened frames outside bracket = reopened frames (new_frame outside bracket)
 
 -- behind a part with so many minuses before it
 abbrev pub landed : List Frame → Level → ℕ → Part → Outcome
@@ -109,35 +112,35 @@ product_pending frames level p op = made (λ q. next (wanted frames (record leve
 abbrev pub sum_pending : List Frame → Level → Part → SumSign → Outcome
 sum_pending frames level p op = made (λ q. next (wanted frames (record level { sum = Some (record { part = q; sign = op }); product = None; minuses = 0 }))) (closed_sum level p)
 
--- behind the sign of an interval
-abbrev pub low_pending_in : Bool → List Frame → Level → Part → Outcome
-low_pending_in true frames level p = refused
-low_pending_in false frames level p = made (λ q. next (wanted frames (record { low = Some q; sum = None; product = None; minuses = 0 }))) (closed_sum level p)
+-- behind the sign of an interval, which has one low end
+abbrev pub low_pending_in : Bool → List Frame → Option Part → Outcome
+low_pending_in true frames low = refused
+low_pending_in false frames low = made (λ q. next (wanted frames (record { low = Some q; sum = None; product = None; minuses = 0 }))) low
 
 abbrev pub low_pending : List Frame → Level → Part → Outcome
-low_pending frames level p = low_pending_in (is_some level.low) frames level p
+low_pending frames level p = low_pending_in (is_some level.low) frames (closed_sum level p)
 
--- behind a comma in a bracket
-abbrev pub comma_in : Bracket → List Frame → Frame → Part → Outcome
-comma_in Bar frames frame t = refused
-comma_in bracket frames frame t = next (wanted (record frame { row = Some (with_term (row_so_far frame.row) t) } ∷ frames) no_level)
-
+-- behind a `,` behind a term in a bracket
 abbrev pub comma : List Frame → Frame → Part → Outcome
-comma frames frame t = comma_in frame.bracket frames frame t
+comma frames frame t = made (reopened frames) (frame_with frame t)
+
+-- behind a `;` behind a term in a bracket
+abbrev pub semicolon : List Frame → Frame → Part → Outcome
+semicolon frames frame t = made (opened frames frame.outside) (ended_with frame.bracket frame.row t)
+
+-- behind a closing parenthesis behind a term in a bracket
+abbrev pub right_paren : List Frame → Frame → Part → Outcome
+right_paren frames frame t = made (closed frames frame.outside) (ended_with frame.bracket frame.row t)
 
 -- behind the bar that closes a bracket
-abbrev pub barred_in : Bracket → List Frame → Level → Part → Outcome
-barred_in Bar frames outside t = made (landed frames outside outside.minuses) (round Abs t)
-barred_in bracket frames outside t = refused
-
 abbrev pub barred : List Frame → Frame → Part → Outcome
-barred frames frame t = barred_in frame.bracket frames frame.outside t
+barred frames frame t = made (λ outside. made (landed frames outside outside.minuses) (round Abs t)) (outside_of_bar frame)
 
 -- After a token behind a term in a bracket. An interval isn't closed by a bar.
 abbrev pub divided : List Frame → Frame → Bool → Part → TokenKind → Outcome
 divided frames frame is_interval t Comma = comma frames frame t
-divided frames frame is_interval t Semicolon = made (list_ended frames frame.outside Semicolon) (ended_with frame.bracket frame.row t)
-divided frames frame is_interval t RightParen = made (list_ended frames frame.outside RightParen) (ended_with frame.bracket frame.row t)
+divided frames frame is_interval t Semicolon = semicolon frames frame t
+divided frames frame is_interval t RightParen = right_paren frames frame t
 divided frames frame false t BarToken = barred frames frame t
 divided frames frame is_interval t kind = refused
 
@@ -189,3 +192,12 @@ carried on stop none refused = none
 abbrev pub run : Reader → List Word → Option (Part × List Word)
 run r [] = carried (λ s. None) (λ p. Some (p, [])) None (step r (sign Dot))
 run r (w ∷ ws) = carried (λ s. run s ws) (λ p. Some (p, w ∷ ws)) None (step r w)
+
+-- what is found of the words, with the number of its words
+abbrev pub numbered : List Word → Option (Part × List Word) → Option (Part × ℕ)
+numbered ws None = None
+numbered ws (Some (p, rest)) = Some (p, length ws - length rest)
+
+-- the term at the front of the words
+abbrev pub read_of : List Word → Option (Part × ℕ)
+read_of ws = numbered ws (run at_start ws)

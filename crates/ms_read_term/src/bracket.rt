@@ -1,6 +1,6 @@
 // Brackets that are open, with what stands in them.
 ghost use Rattle.std.specs.Prelude.{◌≡◌, IfOk};
-ghost use Rattle.ms_read_term.specs.Brackets.{parenthesis_with, ended_with, ended_bare, bracket_part};
+ghost use Rattle.ms_read_term.specs.Brackets.{new_frame, frame_with, outside_of_bar, parenthesis_with, ended_with, ended_bare, bracket_part};
 
 use crate::level::Level;
 use crate::make::{grouped, named, pooled, tuple_of};
@@ -24,6 +24,45 @@ pub(crate) struct Frame {
     pub outside: Level,
     pub bracket: Bracket,
     pub row: Option<Row>,
+}
+
+impl Frame {
+    /// A bracket in which nothing stands behind it or its last `;`.
+    pub fn new(outside: Level, bracket: Bracket) -> Self
+        ensures { result ≡ new_frame outside bracket }
+    {
+        Frame {
+            outside,
+            bracket,
+            row: None,
+        }
+    }
+
+    /// The frame with a term that a `,` ended, where the bracket has lists.
+    pub fn with_term(self, alloc: Global, term: Part) -> Result<Option<Frame>, OutOfMemory>
+        ensures { IfOk result (λ made. made ≡ frame_with self term) }
+    {
+        if matches!(self.bracket, Bracket::Bar) {
+            drop(self);
+            return Ok(None);
+        }
+        let row = with_term(alloc, self.row, term)?;
+        Ok(Some(Frame {
+            outside: self.outside,
+            bracket: self.bracket,
+            row: Some(row),
+        }))
+    }
+
+    /// What stands before a bar, if the bracket is one.
+    pub fn into_outside_of_bar(self) -> Option<Level>
+        ensures { result ≡ outside_of_bar self }
+    {
+        match self.bracket {
+            Bracket::Bar => Some(self.outside),
+            _ => None,
+        }
+    }
 }
 
 impl Bracket {
@@ -55,11 +94,7 @@ impl Bracket {
     }
 
     /// The bracket with the list that ends behind the bracket itself, a `;` or a `,`.
-    pub fn ended_bare(
-        self,
-        alloc: Global,
-        row: Option<Row>,
-    ) -> Result<Option<Bracket>, OutOfMemory>
+    pub fn ended_bare(self, alloc: Global, row: Option<Row>) -> Result<Option<Bracket>, OutOfMemory>
         ensures { IfOk result (λ made. made ≡ ended_bare self row) }
     {
         match self {

@@ -86,18 +86,11 @@ impl Level {
     pub fn is_empty(&self) -> bool
         ensures { result ≡ is_bare self.now }
     {
-        self.minuses == 0
-            && self.product.is_none()
-            && self.sum.is_none()
-            && self.low.is_none()
+        self.minuses == 0 && self.product.is_none() && self.sum.is_none() && self.low.is_none()
     }
 
     /// Takes the product that ends with this part.
-    pub fn close_product(
-        &mut self,
-        alloc: Global,
-        part: Part,
-    ) -> Result<Option<Part>, OutOfMemory>
+    pub fn close_product(&mut self, alloc: Global, part: Part) -> Result<Option<Part>, OutOfMemory>
         ensures made { IfOk result (λ made. made ≡ closed_product self.old part) }
         ensures left { OnOk result (self.new ≡ record self.old { product = None }) }
     {
@@ -105,11 +98,7 @@ impl Level {
     }
 
     /// Takes the sum that ends with this part.
-    pub fn close_sum(
-        &mut self,
-        alloc: Global,
-        part: Part,
-    ) -> Result<Option<Part>, OutOfMemory>
+    pub fn close_sum(&mut self, alloc: Global, part: Part) -> Result<Option<Part>, OutOfMemory>
         ensures made { IfOk result (λ made. made ≡ closed_sum self.old part) }
         ensures left { IfOk result (λ made. IfSome made (λ _. self.new ≡ record self.old { sum = None; product = None })) }
     {
@@ -159,11 +148,7 @@ fn with_sum(
 }
 
 // The term that ends with this part.
-fn with_low(
-    alloc: Global,
-    pending: Option<Part>,
-    part: Part,
-) -> Result<Option<Part>, OutOfMemory>
+fn with_low(alloc: Global, pending: Option<Part>, part: Part) -> Result<Option<Part>, OutOfMemory>
     ensures { IfOk result (λ made. made ≡ with_low pending part) }
 {
     match pending {

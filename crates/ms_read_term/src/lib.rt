@@ -8,15 +8,16 @@ ghost use Rattle.ms_grammar.specs.Words.{words_of};
 ghost use Rattle.ms_grammar.specs.Terms.{Term, term_words, term_part};
 ghost use Rattle.ms_grammar.specs.Reading.{EndsTerm, IsRead};
 
-mod level;
-mod make;
-mod row;
 mod bracket;
 mod frames;
-mod reader;
+mod level;
+mod make;
 mod number;
+mod reader;
+mod row;
 mod string;
 
+use crate::reader::Reader;
 pub use ms_base::memory::OutOfMemory;
 use ms_grammar::part::Part;
 use ms_text::token::Token;
@@ -33,5 +34,11 @@ pub fn read_term(
     requires { LieWithin (length text.now) tokens.now }
     ensures { IfOk result (IsRead Term Part term_words term_part EndsTerm (words_of text.now tokens.now)) }
 {
-    Err(OutOfMemory)
+    let mut reader = Reader::new(alloc);
+    let found = reader.find(alloc, text, tokens);
+    drop(reader);
+    found
 }
+
+#[cfg(test)]
+mod tests;

@@ -1,8 +1,8 @@
 // A term as far as it was read.
 ghost use Rattle.std.specs.Prelude.{◌≡◌, ◌≤◌, length, IfOk, Some};
 ghost use Rattle.ms_text.specs.declared.token.TokenKind.{TokenKind};
-ghost use Rattle.ms_text.specs.Tokens.{number_of};
-ghost use Rattle.ms_grammar.specs.Words.{word_of};
+ghost use Rattle.ms_text.specs.Tokens.{LieWithin, number_of};
+ghost use Rattle.ms_grammar.specs.Words.{word_of, words_of};
 ghost use Rattle.ms_grammar.specs.Terms.{leaf};
 
 use crate::bracket::{Bracket, Frame};
@@ -10,7 +10,6 @@ use crate::frames::Frames;
 use crate::level::{Level, PendingProduct, PendingSum, ProductSign, SumSign};
 use crate::make::{absolute, constant, leaf, negated};
 use crate::number::number_of;
-use crate::row::with_term;
 use crate::string::{unescape, within_quotes};
 use ms_base::memory::OutOfMemory;
 use ms_base::seq::{Bytes, Seq};
@@ -25,6 +24,14 @@ const GREATEST: u64 = 9223372036854775807;
 
 /// More minuses in a row than any term is high.
 const MOST_MINUSES: u8 = 201;
+
+/// The end of the tokens is read like a dot, which ends any term.
+const END: Token = Token {
+    kind: TokenKind::Dot,
+    start: 0,
+    end: 0,
+    line: 0,
+};
 
 /// Where the reader stands.
 #[derive(Drop)]
@@ -57,7 +64,7 @@ pub(crate) struct Reader {
 }
 
 impl Reader {
-    ghost use Rattle.ms_read_term.specs.Machine.{at_start, outcome, step, opened, landed, begun, number_begun, minus_begun, bare, behind_name, behind, product_pending, sum_pending, low_pending, ended, divided, comma, closed, barred};
+    ghost use Rattle.ms_read_term.specs.Machine.{at_start, outcome, step, numbered, run, opened, landed, reopened, semicolon, right_paren, begun, number_begun, minus_begun, bare, behind_name, behind, product_pending, sum_pending, low_pending, ended, divided, comma, closed, barred};
 
     /// Before the first token.
     pub fn new(alloc: Global) -> Self
@@ -70,8 +77,32 @@ impl Reader {
         }
     }
 
-    /// Reads one more token of the text.
-    pub fn read(&mut self, alloc: Global, text: &[u8], token: Token) -> Result<Turn, OutOfMemory>
+    /// Reads the tokens one by one, up to the first that is none of the term. Gives the term with the number
+    /// of its tokens.
+    pub fn find(
+        &mut self,
+        alloc: Global,
+        text: &[u8],
+        tokens: &[Token],
+    ) -> Result<Option<(Part, usize)>, OutOfMemory>
+        requires { LieWithin (length text.now) tokens.now }
+        ensures { IfOk result (λ found. found ≡ numbered (words_of text.now tokens.now) (run self.old (words_of text.now tokens.now))) }
+    {
+        for (place, token) in tokens.iter().enumerate() {
+            match self.read(alloc, text, *token)? {
+                Turn::Next => {}
+                Turn::Found(term) => return Ok(Some((term, place))),
+                Turn::Refused => return Ok(None),
+            }
+        }
+        match self.read(alloc, text, END)? {
+            Turn::Found(term) => Ok(Some((term, tokens.len()))),
+            Turn::Next | Turn::Refused => Ok(None),
+        }
+    }
+
+    // Reads one more token of the text.
+    fn read(&mut self, alloc: Global, text: &[u8], token: Token) -> Result<Turn, OutOfMemory>
         requires ordered { token.start ≤ token.end }
         requires within { token.end ≤ length text.now }
         ensures { IfOk result (λ turn. outcome turn self.new ≡ step self.old (word_of text.now token)) }
@@ -142,13 +173,7 @@ impl Reader {
         ensures { IfOk result (λ turn. outcome turn self.new ≡ opened self.old.frames self.old.level bracket) }
     {
         let outside = mem::replace(&mut self.level, Level::new());
-        self.frames.push(Frame {
-            outside,
-            bracket,
-            row: None,
-        })?;
-        self.place = Place::Wanted;
-        Ok(Turn::Next)
+        self.reopen(Frame::new(outside, bracket))
     }
 
     // Stands behind a part with so many minuses before it.
@@ -177,7 +202,7 @@ impl Reader {
             return Ok(Turn::Refused);
         };
         match kind {
-            TokenKind::Semicolon => self.go_on(frame.outside, bracket),
+            TokenKind::Semicolon => self.reopen(Frame::new(frame.outside, bracket)),
             _ => self.close(alloc, frame.outside, bracket),
         }
     }
@@ -292,20 +317,33 @@ impl Reader {
     {
         match kind {
             TokenKind::Comma => self.comma(alloc, frame, term),
-            TokenKind::Semicolon => {
-                match frame.bracket.ended_with(alloc, frame.row, term)? {
-                    None => Ok(Turn::Refused),
-                    Some(bracket) => self.go_on(frame.outside, bracket),
-                }
-            }
-            TokenKind::RightParen => {
-                match frame.bracket.ended_with(alloc, frame.row, term)? {
-                    None => Ok(Turn::Refused),
-                    Some(bracket) => self.close(alloc, frame.outside, bracket),
-                }
-            }
+            TokenKind::Semicolon => self.semicolon(alloc, frame, term),
+            TokenKind::RightParen => self.right_paren(alloc, frame, term),
             TokenKind::Bar if !is_interval => self.close_bar(alloc, frame, term),
-            _ => Ok(Turn::Refused),
+            _ => {
+                drop(frame);
+                Ok(Turn::Refused)
+            }
+        }
+    }
+
+    // Reads a semicolon behind a term in a bracket.
+    fn semicolon(&mut self, alloc: Global, frame: Frame, term: Part) -> Result<Turn, OutOfMemory>
+        ensures { IfOk result (λ turn. outcome turn self.new ≡ semicolon self.old.frames frame term) }
+    {
+        match frame.bracket.ended_with(alloc, frame.row, term)? {
+            None => Ok(Turn::Refused),
+            Some(bracket) => self.reopen(Frame::new(frame.outside, bracket)),
+        }
+    }
+
+    // Reads a closing parenthesis behind a term in a bracket.
+    fn right_paren(&mut self, alloc: Global, frame: Frame, term: Part) -> Result<Turn, OutOfMemory>
+        ensures { IfOk result (λ turn. outcome turn self.new ≡ right_paren self.old.frames frame term) }
+    {
+        match frame.bracket.ended_with(alloc, frame.row, term)? {
+            None => Ok(Turn::Refused),
+            Some(bracket) => self.close(alloc, frame.outside, bracket),
         }
     }
 
@@ -313,29 +351,17 @@ impl Reader {
     fn comma(&mut self, alloc: Global, frame: Frame, term: Part) -> Result<Turn, OutOfMemory>
         ensures { IfOk result (λ turn. outcome turn self.new ≡ comma self.old.frames frame term) }
     {
-        if matches!(frame.bracket, Bracket::Bar) {
-            return Ok(Turn::Refused);
+        match frame.with_term(alloc, term)? {
+            None => Ok(Turn::Refused),
+            Some(frame) => self.reopen(frame),
         }
-        let row = with_term(alloc, frame.row, term)?;
-        self.frames.push(Frame {
-            outside: frame.outside,
-            bracket: frame.bracket,
-            row: Some(row),
-        })?;
-        self.level = Level::new();
-        self.place = Place::Wanted;
-        Ok(Turn::Next)
     }
 
-    // Goes on behind a semicolon.
-    fn go_on(&mut self, outside: Level, bracket: Bracket) -> Result<Turn, OutOfMemory>
-        ensures { IfOk result (λ turn. outcome turn self.new ≡ opened self.old.frames outside bracket) }
+    // Goes on in a bracket behind a comma or a semicolon.
+    fn reopen(&mut self, frame: Frame) -> Result<Turn, OutOfMemory>
+        ensures { IfOk result (λ turn. outcome turn self.new ≡ reopened self.old.frames frame) }
     {
-        self.frames.push(Frame {
-            outside,
-            bracket,
-            row: None,
-        })?;
+        self.frames.push(frame)?;
         self.level = Level::new();
         self.place = Place::Wanted;
         Ok(Turn::Next)
@@ -361,13 +387,13 @@ impl Reader {
     fn close_bar(&mut self, alloc: Global, frame: Frame, term: Part) -> Result<Turn, OutOfMemory>
         ensures { IfOk result (λ turn. outcome turn self.new ≡ barred self.old.frames frame term) }
     {
-        if !matches!(frame.bracket, Bracket::Bar) {
+        let Some(outside) = frame.into_outside_of_bar() else {
             return Ok(Turn::Refused);
-        }
+        };
+        self.level = outside;
         let Some(part) = absolute(alloc, term)? else {
             return Ok(Turn::Refused);
         };
-        self.level = frame.outside;
         self.land(alloc, self.level.minuses, part)
     }
 }

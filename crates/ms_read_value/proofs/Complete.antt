@@ -18,7 +18,7 @@ use Rattle.ms_read_value.proofs.Steps.{constant_part, found_at, found_at-word, f
 
 -- The words don't carry on the value: a name outside of brackets is never taken for whole.
 abbrev pub EndsAfter : Spelling → List Group → List Word → Type 0
-EndsAfter (constant f) [] ws = EndsValue (sign kind.LeftParen ∷ [])
+EndsAfter (constant f) [] ws = ⊥
 EndsAfter (constant f) (group ∷ groups) ws = EndsValue ws
 EndsAfter v groups ws = Unit {0}
 

@@ -99,7 +99,7 @@ fn scripts_have_their_replies(rt: HostRuntime) -> Result<(), Fail> {
             "a variable begins no token",
             b"@add\n#program step(t,u). #external p(t). #const n = -3. #show p/2. #show. #include <incmode>.\n:- . a() :- b; not c, 1..2 < |x-3|. { p(1;2) : q, not r; s } <= 2. 1 #count { 1,(2,) : a } 3 :- not 2 < #sum { -X }.\n@end\n",
             refused,
-            "refused syntax 3\n",
+            "refused syntax 2\n",
         ),
         (
             "each form of a statement that there is",

@@ -2,15 +2,15 @@ use Rattle.std.proofs.Common.{◌∙◌, ◌||◌, ap}
 use Rattle.std.proofs.lemmas.Result.{IfOk-weaker}
 use Rattle.ms_nogood.specs.Store.{nogood_at}
 use Rattle.ms_analyze.specs.Analysis.{is_temporary}
-use Rattle.ms_analyze.proofs.Points.{last_stage, learned_asserts, learned_back, learned_different, learned_lasts, learned_refuted, learned_whole}
+use Rattle.ms_analyze.proofs.Points.{last_stage, learned_asserts, learned_back, learned_different, learned_lasts, learned_refuted, learned_room, learned_whole}
 use Rattle.ms_analyze.proofs.Stages.{last_falls, place_some, reason_assigned, reason_there, stage_start, stage_step, start_marked, start_place, step_place, whole_assigned}
 use Rattle.ms_analyze.proofs.analyze.Goals as goal
 
 pub mark-requires : goal.mark-requires
 mark-requires c = whole_assigned c.args.store.now c.args.trail.now c.args.violated c.len.ensures.assignment c.requires.whole
 
-pub take_last-top-requires : goal.take_last-top-requires
-take_last-top-requires c =
+pub take_last-last-requires : goal.take_last-last-requires
+take_last-last-requires c =
     let whole = c.requires.whole in
     let is = start_marked c.args.trail.now.entries whole.stored.lits _ _ _ (c.in_ok-mark.ensures.places whole.stored whole.found) c.len.ensures.len c.new-cut.ensures.places in
     place_some c.args.trail.now.entries _ c.args.trail.now.level
@@ -20,39 +20,44 @@ pub loop-reason-init : goal.loop-reason-init
 loop-reason-init c =
     let whole = c.requires.whole in
     let is = start_marked c.args.trail.now.entries whole.stored.lits _ _ _ (c.in_ok-mark.ensures.places whole.stored whole.found) c.len.ensures.len c.new-cut.ensures.places in
-    let label = c.take_last-top.ensures.temporary ∙ c.mark.ensures.temporary ∙ ap (λ b. b || is_temporary (nogood_at c.args.store.now c.args.violated)) c.new-cut.ensures.temporary in
-    stage_start c.args.store.now c.args.trail.now c.args.violated _ _ _ _ c.len.ensures.assignment whole (c.requires.present whole.stored whole.found) is label c.take_last-top.ensures.places c.take_last-top.ensures.below c.take_last-top.ensures.ordered
+    let label = c.take_last-last.ensures.temporary ∙ c.mark.ensures.temporary ∙ ap (λ b. b || is_temporary (nogood_at c.args.store.now c.args.violated)) c.new-cut.ensures.temporary in
+    stage_start c.args.store.now c.args.trail.now c.args.violated _ _ _ _ c.len.ensures.assignment whole (c.requires.present whole.stored whole.found) is label c.take_last-last.ensures.places c.take_last-last.ensures.below c.take_last-last.ensures.ordered
 
 pub mark-requires-in-Some : goal.mark-requires-in-Some
 mark-requires-in-Some c =
     let stage = c.loop-reason.invariant in
-    reason_assigned c.args.store.now c.args.trail.now c.loop-reason.top c.in-Some.reason c.len.ensures.assignment stage.within
-    (reason_there c.args.store.now c.args.trail.now.entries c.loop-reason.top c.in-Some.reason c.requires.reasons stage.within c.in-Some.ensures.reason)
+    reason_assigned c.args.store.now c.args.trail.now c.loop-reason.last c.in-Some.reason c.len.ensures.assignment stage.within
+    (reason_there c.args.store.now c.args.trail.now.entries c.loop-reason.last c.in-Some.reason c.requires.reasons stage.within c.in-Some.ensures.reason)
 
-pub take_last-top-requires-in-Some : goal.take_last-top-requires-in-Some
-take_last-top-requires-in-Some c =
+pub take_last-last-requires-in-Some : goal.take_last-last-requires-in-Some
+take_last-last-requires-in-Some c =
     let stage = c.loop-reason.invariant in
-    let r = reason_there c.args.store.now c.args.trail.now.entries c.loop-reason.top c.in-Some.reason c.requires.reasons stage.within c.in-Some.ensures.reason in
+    let r = reason_there c.args.store.now c.args.trail.now.entries c.loop-reason.last c.in-Some.reason c.requires.reasons stage.within c.in-Some.ensures.reason in
     place_some c.args.trail.now.entries _ c.args.trail.now.level
-    (step_place c.args.trail.now _ _ c.loop-reason.top r.stored.lits c.in-Some.ensures.other (c.in_ok-mark-2.ensures.places r.stored r.found))
+    (step_place c.args.trail.now _ _ c.loop-reason.last r.stored.lits c.in-Some.ensures.other (c.in_ok-mark-2.ensures.places r.stored r.found))
 
 pub loop-reason-smaller : goal.loop-reason-smaller
 loop-reason-smaller c =
     let stage = c.loop-reason.invariant in
-    let r = reason_there c.args.store.now c.args.trail.now.entries c.loop-reason.top c.in-Some.reason c.requires.reasons stage.within c.in-Some.ensures.reason in
-    last_falls c.args.store.now c.args.trail.now c.args.violated _ _ _ _ _ _ r.stored.lits stage (c.in_ok-mark-2.ensures.places r.stored r.found) c.take_last-top-in-Some.ensures.places
+    let r = reason_there c.args.store.now c.args.trail.now.entries c.loop-reason.last c.in-Some.reason c.requires.reasons stage.within c.in-Some.ensures.reason in
+    last_falls c.args.store.now c.args.trail.now c.args.violated _ _ _ _ _ _ r.stored.lits stage (c.in_ok-mark-2.ensures.places r.stored r.found) c.take_last-last-in-Some.ensures.places
 
 pub loop-reason-preserved : goal.loop-reason-preserved
 loop-reason-preserved c =
     let stage = c.loop-reason.invariant in
-    let r = reason_there c.args.store.now c.args.trail.now.entries c.loop-reason.top c.in-Some.reason c.requires.reasons stage.within c.in-Some.ensures.reason in
-    let last = c.take_last-top-in-Some.ensures in
+    let r = reason_there c.args.store.now c.args.trail.now.entries c.loop-reason.last c.in-Some.reason c.requires.reasons stage.within c.in-Some.ensures.reason in
+    let last = c.take_last-last-in-Some.ensures in
     stage_step c.args.store.now c.args.trail.now c.args.violated _ _ _ _ _ c.in-Some.reason _ _ c.len.ensures.assignment stage r c.in-Some.ensures.reason c.in-Some.ensures.other (c.in_ok-mark-2.ensures.places r.stored r.found) (last.temporary ∙ c.mark-in-Some.ensures.temporary) last.places last.below last.ordered
 
 pub returns-clause-whole : goal.returns-clause-whole
 returns-clause-whole c =
     let s = last_stage c.args.store.now c.args.trail.now c.args.violated _ _ _ c.len.ensures.assignment c.requires.level c.loop-reason.invariant c.in_default.ensures.alone in
     IfOk-weaker c.learned.result _ _ (learned_whole c.args.store.now c.args.trail.now c.args.violated _ _ _ s) c.learned.ensures
+
+pub returns-clause-room : goal.returns-clause-room
+returns-clause-room c =
+    let s = last_stage c.args.store.now c.args.trail.now c.args.violated _ _ _ c.len.ensures.assignment c.requires.level c.loop-reason.invariant c.in_default.ensures.alone in
+    IfOk-weaker c.learned.result _ _ (learned_room c.args.store.now c.args.trail.now c.args.violated _ _ _ s) c.learned.ensures
 
 pub returns-clause-different : goal.returns-clause-different
 returns-clause-different c =

@@ -1,4 +1,4 @@
-use Rattle.std.proofs.Common.{◌∙◌, ◌<◌, sym, arith}
+use Rattle.std.proofs.Common.{◌∙◌, sym, arith}
 use Rattle.ms_read_term.proofs.Closings.{negated_first}
 use Rattle.ms_read_term.proofs.make.negated.Goals as goal
 
