@@ -1,4 +1,4 @@
 // Parameters, constants, pools and intervals of texts become core rules.
 #![tactic(auto)]
 
-mod replace;
+mod duplicate;
