@@ -2,3 +2,9 @@
 #![tactic(auto)]
 
 mod duplicate;
+mod meaning;
+mod parts;
+mod replace;
+
+pub use ms_base::memory::OutOfMemory;
+pub use parts::Parts;
