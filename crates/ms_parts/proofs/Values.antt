@@ -1,5 +1,5 @@
 -- Values of names in lists.
-use Rattle.std.proofs.Common.{◌≡◌, ℕ, ◌+◌, ◌<◌, ◌≤◌, Bool, true, false, if◌then◌else◌, List, [], ◌∷◌, ◌++◌, length, drop, get_or, Option, Some, None, refl, sym, ap, ◌∙◌}
+use Rattle.std.proofs.Common.{◌≡◌, ℕ, ◌+◌, ◌<◌, ◌≤◌, Bool, true, false, if◌then◌else◌, List, [], ◌∷◌, ◌++◌, length, drop, get_or, Option, Some, None, refl, sym, ap, ◌∙◌, arith}
 use Rattle.std.specs.List.{filter_map, cons_option}
 use Rattle.std.proofs.lemmas.List.{drop_more}
 use Rattle.std.proofs.Math.ListN.{drop_of_length-le}
@@ -73,3 +73,28 @@ module _ (said : List (PartName × Form)) (name : List ℕ) (i : ℕ) (x : PartN
 pub defined_nowhere : (said : List (PartName × Form)) (name : List ℕ) (i : ℕ) → length said ≤ i → value_in (constants_of (drop i said)) name ≡ None
 unfolding value_in
 defined_nowhere said name i past = ap (λ l. value_in l name) (constants_end said i past)
+
+-- the value of a name among parameters and their values, from the first pair on
+module _ (name p : List ℕ) (v : Value) (params more : List (List ℕ)) (args others : List Value) (first : params ≡ p ∷ more) (second : args ≡ v ∷ others) where
+  pairs_are : paired params args ≡ (p, v) ∷ paired more others
+  unfolding paired
+  pairs_are = rw first (rw second refl)
+
+  pub argument_here : is_name p name ≡ true → value_in (paired params args) name ≡ Some v
+  unfolding value_in
+  argument_here named = ap (λ l. value_in l name) pairs_are ∙ ap (λ b. if b then Some v else value_in (paired more others) name) named
+
+  pub argument_further : is_name p name ≡ false → value_in (paired params args) name ≡ value_in (paired more others) name
+  unfolding value_in
+  argument_further named = ap (λ l. value_in l name) pairs_are ∙ ap (λ b. if b then Some v else value_in (paired more others) name) named
+
+pub no_argument_left : (name : List ℕ) (params : List (List ℕ)) (args : List Value) → length params ≡ 0 → value_in (paired params args) name ≡ None
+unfolding value_in paired
+no_argument_left name [] args e = refl
+no_argument_left name (p ∷ params) args e = absurd (omega (arith, e))
+
+pub no_value_left : (name : List ℕ) (params : List (List ℕ)) (args : List Value) → length args ≡ 0 → value_in (paired params args) name ≡ None
+unfolding value_in paired
+no_value_left name [] args e = refl
+no_value_left name (p ∷ params) [] e = refl
+no_value_left name (p ∷ params) (v ∷ args) e = absurd (omega (arith, e))

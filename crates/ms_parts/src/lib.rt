@@ -5,6 +5,7 @@ mod duplicate;
 mod meaning;
 mod parts;
 mod replace;
+mod replace_form;
 
 pub use ms_base::memory::OutOfMemory;
 pub use parts::Parts;
