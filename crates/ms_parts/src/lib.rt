@@ -6,6 +6,7 @@ mod meaning;
 mod parts;
 mod replace;
 mod replace_form;
+mod rows;
 
 pub use ms_base::memory::OutOfMemory;
 pub use parts::Parts;
