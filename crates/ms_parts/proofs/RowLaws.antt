@@ -62,3 +62,19 @@ flat_map_next f xs i x made inside is so_far =
     ∙ ap (λ l. flat_map f (take i xs) ++ l) (sym (append-nil (f x)))
     ∙ sym (flat_map-append f (take i xs) (x ∷ []))
     ∙ sym (ap (flat_map f) up)
+
+pub extended_by_only : {A : Type 0} (rows : List (List A)) (items : List A) (item : A) → only_of items ≡ Ok item → map (λ row. row ++ item ∷ []) rows ≡ extended rows items
+extended_by_only rows items item is = sym (flat_map_single (λ row. row ++ item ∷ []) rows) ∙ sym (ap (extended rows) (only_is items item is))
+
+pub choices_none : {A : Type 0} → choices {A = A} [] ≡ [] ∷ []
+unfolding choices
+choices_none = refl
+
+-- the rows of the elements before a place, and of one more
+pub choices_next : {X A : Type 0} (f : X → List A) (xs : List X) (i : ℕ) (x : X) (rows : List (List A)) → i < length xs → x ≡ get_or xs i x → rows ≡ choices (map f (take i xs)) → extended rows (f x) ≡ choices (map f (take (i + 1) xs))
+choices_next f xs i x rows inside is so_far =
+    let up : take (i + 1) xs ≡ take i xs ++ x ∷ [] = take_more xs i x inside ∙ ap (λ y. take i xs ++ y ∷ []) (sym is) in
+    ap (λ r. extended r (f x)) so_far
+    ∙ sym (choices_push (map f (take i xs)) (f x))
+    ∙ ap choices (sym (map-append f (take i xs) (x ∷ [])))
+    ∙ ap (λ l. choices (map f l)) (sym up)

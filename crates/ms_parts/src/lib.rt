@@ -4,6 +4,7 @@
 mod duplicate;
 mod meaning;
 mod parts;
+mod pools;
 mod replace;
 mod replace_form;
 mod rows;
