@@ -5,6 +5,7 @@ mod duplicate;
 mod meaning;
 mod parts;
 mod pools;
+mod pools_form;
 mod replace;
 mod replace_form;
 mod rows;

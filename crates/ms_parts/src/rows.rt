@@ -18,7 +18,7 @@ pub(crate) fn single<T: Drop>(alloc: Global, item: T) -> Result<Seq<T>, OutOfMem
 }
 
 /// The only item, or else the items back.
-fn only<T: Drop>(items: Seq<T>) -> Result<T, Seq<T>>
+pub(crate) fn only<T: Drop>(items: Seq<T>) -> Result<T, Seq<T>>
     ensures { result ≡ only_of items }
 {
     if items.len() != 1 {
