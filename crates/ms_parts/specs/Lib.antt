@@ -1,3 +1,4 @@
 pub mod Meanings
 pub mod Rows
 pub mod Sides
+pub mod Makers

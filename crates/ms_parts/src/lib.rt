@@ -6,6 +6,8 @@ mod meaning;
 mod parts;
 mod pools;
 mod pools_form;
+mod conds;
+mod ranges;
 mod replace;
 mod replace_form;
 mod rows;
