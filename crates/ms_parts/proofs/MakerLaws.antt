@@ -109,3 +109,21 @@ ranged_abs t = ap ranged (sym (variants.rolls-Abs t)) ∙ fold-roll-TextTerm (Ma
 
 ranged_binary : (op : Op) (l r : TextTerm) → ranged (text.Binary op l r) ≡ then_with (Binary op) (ranged l) (ranged r)
 ranged_binary op l r = ap ranged (sym (variants.rolls-Binary op l r)) ∙ fold-roll-TextTerm (Maker Pattern) ranged_step (TextTerm-F.Binary op l r)
+
+module _ (first : ℕ) (old : List Range) (x : Pattern) (mid : List Range) (y : Pattern) (next : List Range) where
+  both_made : {A : Type 0} (f : Pattern → Pattern → A) (l r left right : TextTerm) → left ≡ l → right ≡ r → IsMade (ranged left) first old x mid → IsMade (ranged right) first mid y next → IsMade (then_with f (ranged l) (ranged r)) first old (f x y) next
+  both_made f l r left right is_left is_right one two =
+      made_then f (ranged l) (ranged r) first old x mid y next
+        (subst (λ (s : TextTerm). IsMade (ranged s) first old x mid) is_left one)
+        (subst (λ (s : TextTerm). IsMade (ranged s) first mid y next) is_right two)
+
+  pub made_interval : (t l r left right : TextTerm) (number : ℕ) (new : List Range) → t ≡ text.Interval l r → left ≡ l → right ≡ r → IsMade (ranged left) first old x mid → IsMade (ranged right) first mid y next → number ≡ first + length next → new ≡ next ++ range_of x y ∷ [] → IsMade (ranged t) first old (ChosenOf number) new
+  made_interval t l r left right number new is is_left is_right one two at pushed =
+      subst (λ (m : Maker Pattern). IsMade m first old (ChosenOf number) new) (sym (ap ranged is ∙ ranged_interval l r))
+        (made_chosen (then_with range_of (ranged l) (ranged r)) first old (range_of x y) next number new (both_made range_of l r left right is_left is_right one two) at pushed)
+
+  pub made_binary : (t l r left right : TextTerm) (op : Op) (a b : Pattern) → t ≡ text.Binary op l r → left ≡ l → right ≡ r → IsMade (ranged left) first old x mid → IsMade (ranged right) first mid y next → a ≡ x → b ≡ y → IsMade (ranged t) first old (Binary op a b) next
+  made_binary t l r left right op a b is is_left is_right one two is_a is_b =
+      subst (λ (m : Maker Pattern). IsMade m first old (Binary op a b) next) (sym (ap ranged is ∙ ranged_binary op l r))
+        (subst (λ p. IsMade (then_with (Binary op) (ranged l) (ranged r)) first old p next) (sym (ap (λ p. Binary op p b) is_a ∙ ap (Binary op x) is_b))
+          (both_made (Binary op) l r left right is_left is_right one two))
