@@ -1,3 +1,5 @@
-pub mod Values
+pub mod NamedValues
 pub mod RowLaws
 pub mod MakerLaws
+pub mod Definitions
+pub mod CallLaws

@@ -2,3 +2,4 @@ pub mod Meanings
 pub mod Rows
 pub mod Sides
 pub mod Makers
+pub mod Definitions

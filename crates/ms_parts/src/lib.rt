@@ -1,18 +1,28 @@
-// Parameters, constants, pools and intervals of texts become core rules.
+// The parts of texts, their constants, and the core rules of a call: parameters, constants, pools and intervals
+// are replaced, and choices become single choices with their bounds.
 #![tactic(auto)]
 
+mod body;
+mod call;
+mod conds;
+mod core_rules;
 mod duplicate;
+mod fault;
 mod meaning;
+mod part_name;
 mod parts;
 mod pools;
 mod pools_form;
-mod body;
-mod conds;
-mod core_rules;
 mod ranges;
 mod replace;
 mod replace_form;
 mod rows;
+mod said;
+mod values;
 
+pub use fault::PartsFault;
 pub use ms_base::memory::OutOfMemory;
+pub use ms_core::rule::CoreRules;
+pub use ms_grammar::statement::Statements;
+pub use ms_grammar::value::Value;
 pub use parts::Parts;

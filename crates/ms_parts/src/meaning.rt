@@ -9,6 +9,7 @@ use ms_base::seq::Bytes;
 use ms_grammar::value::Value;
 
 /// The parameters of a part with their values, and the texts with their constants.
+#[derive(Drop)]
 pub(crate) struct Meanings<'a> {
     pub params: &'a [Bytes],
     pub args: &'a [Value],

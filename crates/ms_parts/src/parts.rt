@@ -1,29 +1,22 @@
-ghost use Rattle.std.specs.Prelude.{◌≡◌, OnOk, OnErr};
-ghost use Rattle.std.specs.Option.{option_copied, option_map};
-ghost use Rattle.ms_core.specs.Texts.{no_texts, with_given, value_in, constant_of, constant, says_show, shows_form, shows};
-ghost use Rattle.std.specs.List.{list_any, filter_map};
+// What the accepted texts say together.
+ghost use Rattle.std.specs.Prelude.{◌≡◌, IfOk, OnOk, OnErr};
+ghost use Rattle.std.specs.Option.{option_copied};
+ghost use Rattle.std.specs.List.{list_any};
+ghost use Rattle.ms_core.specs.Texts.{no_texts, with_given, constant, says_show, shows_form, shows, core_of_call};
+ghost use Rattle.ms_parts.specs.Definitions.{Adds};
 
+use crate::call::core_of_statements;
+use crate::fault::PartsFault;
+use crate::part_name::PartName;
+use crate::said::said_by;
+use crate::values::{defined_value, value_in};
 use ms_base::memory::OutOfMemory;
 use ms_base::seq::{Bytes, Seq};
-use ms_grammar::statement::{Form, Names};
+use ms_core::rule::CoreRules;
+use ms_grammar::statement::{Form, Statements};
 use ms_grammar::value::Value;
 use std::alloc::Global;
 use std::marker::Model;
-
-/// A part by its name, with the names of its parameters in one place of a text.
-#[derive(Debug, Drop)]
-pub(crate) struct PartName {
-    pub name: Bytes,
-    pub params: Names,
-}
-
-impl Model for PartName {
-    ghost use Rattle.ms_core.specs.Texts.{PartName};
-
-    ghost Value = { PartName };
-
-    ghost view = { λ p. record { name = p.name; params = p.params } };
-}
 
 /// What the accepted texts say: each statement with its part, in their order, and the values that were given
 /// to constants from outside, the last one first.
@@ -55,6 +48,18 @@ impl Parts {
             said: Vec::new(alloc),
             given: Vec::new(alloc),
         }
+    }
+
+    /// Adds the statements of a text, and gives their number. Where the text defines a constant a second time,
+    /// or there is no memory for it, nothing changes.
+    pub fn add(&mut self, list: Statements) -> Result<u64, PartsFault>
+        ensures { Adds self.old self.new list result }
+    {
+        let alloc = *self.said.allocator();
+        let count = list.len() as u64;
+        let mut more = said_by(alloc, self.said.as_slice(), list)?.into_vec();
+        self.said.append(&mut more)?;
+        Ok(count)
     }
 
     /// Gives a value to a constant, which wins over what texts define. Where there is no memory for it nothing
@@ -97,6 +102,19 @@ impl Parts {
     {
         self.said.iter().any(|(_, form)| shows_form(name, arity, form))
     }
+
+    /// The core rules of a part with these arguments: those of its statements, in the order of the texts. A part
+    /// without statements has none. More ranges in a rule than a `u32` counts are as much as want of memory.
+    pub fn core(
+        &self,
+        alloc: Global,
+        name: &[u8],
+        args: &[Value],
+    ) -> Result<CoreRules, OutOfMemory>
+        ensures { IfOk result (λ rules. rules ≡ core_of_call self.now name.now args.now) }
+    {
+        core_of_statements(alloc, self, self.said.as_slice(), name, args)
+    }
 }
 
 /// A statement says which atoms are shown.
@@ -113,41 +131,5 @@ fn shows_form(name: &[u8], arity: usize, form: &Form) -> bool
     match form {
         Form::Show { name: shown, arity: count } => shown.as_slice() == name && *count == arity as u64,
         _ => false,
-    }
-}
-
-/// The value of a name in a list of names with values.
-fn value_in<'a>(values: &'a [(Bytes, Value)], name: &[u8]) -> Option<&'a Value>
-    ensures { option_copied result ≡ value_in values.now name.now }
-{
-    for pair in values {
-        if pair.0.as_slice() == name {
-            return Some(&pair.1);
-        }
-    }
-    None
-}
-
-/// The value of a constant that one of the statements defines.
-fn defined_value<'a>(said: &'a [(PartName, Form)], name: &[u8]) -> Option<&'a Value>
-    ensures { option_copied result ≡ value_in (filter_map (λ statement. constant_of statement.1) said.now) name.now }
-{
-    for statement in said {
-        if let Some((other, value)) = constant_of(&statement.1) {
-            if other.as_slice() == name {
-                return Some(value);
-            }
-        }
-    }
-    None
-}
-
-/// The constant that a statement defines.
-fn constant_of(form: &Form) -> Option<(&Bytes, &Value)>
-    ensures { option_map (λ c. (c.0.now, c.1.now)) result ≡ constant_of form.now }
-{
-    match form {
-        Form::Const { name, value } => Some((name, value)),
-        _ => None,
     }
 }

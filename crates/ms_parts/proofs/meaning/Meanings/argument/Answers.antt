@@ -1,6 +1,6 @@
 use Rattle.std.proofs.Common.{◌≡◌, ℕ, List, true, false, inl, inr, sym, ap, ◌∙◌}
 use Rattle.ms_core.specs.Texts.{is_name}
-use Rattle.ms_parts.proofs.Values.{argument_here, argument_further, no_argument_left, no_value_left}
+use Rattle.ms_parts.proofs.NamedValues.{argument_here, argument_further, no_argument_left, no_value_left}
 use Rattle.ms_parts.proofs.meaning.Meanings.argument.Goals as goal
 
 pub returns-then-eq : goal.returns-then-eq

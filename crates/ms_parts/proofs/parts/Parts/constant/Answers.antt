@@ -1,7 +1,8 @@
 use Rattle.std.proofs.Common.{◌≡◌, Some, None, sym, ap, ◌∙◌}
 use Rattle.std.specs.Option.{option_copied}
 use Rattle.ms_core.specs.Texts.{value_in, defined}
-use Rattle.ms_parts.proofs.Values.{constant_given, constant_defined, constants_of}
+use Rattle.ms_parts.specs.Definitions.{constants_of}
+use Rattle.ms_parts.proofs.NamedValues.{constant_given, constant_defined}
 use Rattle.ms_parts.proofs.parts.Parts.constant.Goals as goal
 
 pub returns-in-Some : goal.returns-in-Some

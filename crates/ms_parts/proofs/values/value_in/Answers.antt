@@ -1,7 +1,7 @@
 use Rattle.std.proofs.Common.{◌≡◌, Bool, ℕ, List, true, false, sym, ap, ◌∙◌}
 use Rattle.ms_core.specs.Texts.{is_name}
-use Rattle.ms_parts.proofs.Values.{value_found, value_further, value_nowhere}
-use Rattle.ms_parts.proofs.parts.value_in.Goals as goal
+use Rattle.ms_parts.proofs.NamedValues.{value_found, value_further, value_nowhere}
+use Rattle.ms_parts.proofs.values.value_in.Goals as goal
 
 pub returns-then-eq : goal.returns-then-eq
 returns-then-eq c =

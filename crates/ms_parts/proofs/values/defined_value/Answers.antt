@@ -1,9 +1,9 @@
 use Rattle.std.proofs.Common.{◌≡◌, Bool, ℕ, List, true, false, Option, Some, None, sym, ap, ◌∙◌}
 use Rattle.std.specs.Option.{option_map}
 use Rattle.ms_core.specs.Texts.{is_name, constant_of}
-use Rattle.ms_parts.proofs.Values.{defined_here, defined_further, defined_after, defined_nowhere}
-use Rattle.ms_parts.proofs.parts.defined_value.Goals as goal
-use Rattle.ms_parts.proofs.parts.defined_value.Goals.{in-Some+else-eq, in_default}
+use Rattle.ms_parts.proofs.NamedValues.{defined_here, defined_further, defined_after, defined_nowhere}
+use Rattle.ms_parts.proofs.values.defined_value.Goals as goal
+use Rattle.ms_parts.proofs.values.defined_value.Goals.{in-Some+else-eq, in_default}
 
 pub returns-then-eq : goal.returns-then-eq
 returns-then-eq c =

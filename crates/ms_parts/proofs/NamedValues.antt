@@ -5,6 +5,7 @@ use Rattle.std.proofs.lemmas.List.{drop_more}
 use Rattle.std.proofs.Math.ListN.{drop_of_length-le}
 use Rattle.ms_grammar.specs.declared.value.Value.{Value}
 use Rattle.ms_grammar.specs.declared.statement.Form.{Form}
+use Rattle.ms_parts.specs.Definitions.{constants_of}
 use Rattle.ms_core.specs.Texts.{PartName, Texts, value_in, is_name, constant, constant_of, defined, paired}
 
 -- what is left of a list from the place of an element on
@@ -44,10 +45,6 @@ constant_given t name v is = value_in_append t.given (defined t) name ∙ ap (λ
 
 pub constant_defined : (t : Texts) (name : List ℕ) → value_in t.given name ≡ None → constant t name ≡ value_in (defined t) name
 constant_defined t name is = value_in_append t.given (defined t) name ∙ ap (λ o. or_else o (value_in (defined t) name)) is
-
--- the constants that statements define
-abbrev pub constants_of : List (PartName × Form) → List (List ℕ × Value)
-constants_of said = filter_map (λ statement. constant_of statement.1) said
 
 pub constants_next : (said : List (PartName × Form)) (i : ℕ) (x : PartName × Form) (c : List ℕ × Value) → i < length said → x ≡ get_or said i x → constant_of x.1 ≡ Some c → constants_of (drop i said) ≡ c ∷ constants_of (drop (i + 1) said)
 constants_next said i x c inside is some = ap constants_of (left_from said i x inside is) ∙ ap (λ o. cons_option o (constants_of (drop (i + 1) said))) some
