@@ -3,3 +3,4 @@ pub mod RowLaws
 pub mod MakerLaws
 pub mod Definitions
 pub mod CallLaws
+pub mod SaidLaws
