@@ -68,7 +68,7 @@ unfolding value_in
 moved c xs ys n =
     let first : value_in (xs ++ ys) n ≡ or_else (value_in xs n) (value_in ys n) = value_in_append xs ys n in
     let second : value_in ((xs ++ c ∷ []) ++ ys) n ≡ or_else (or_else (value_in xs n) (value_in (c ∷ []) n)) (value_in ys n) =
-        value_in_append (xs ++ c ∷ []) ys n ∙ ap (λ o. or_else o (value_in ys n)) (value_in_append xs (c ∷ []) n) in
+    value_in_append (xs ++ c ∷ []) ys n ∙ ap (λ o. or_else o (value_in ys n)) (value_in_append xs (c ∷ []) n) in
     ap (λ o. is_some (if is_name c.0 n then Some c.1 else o)) first
     ∙ moved_if (is_name c.0 n) c.1 (value_in xs n) (value_in ys n)
     ∙ sym (ap is_some second)

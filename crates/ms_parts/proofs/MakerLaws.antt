@@ -31,9 +31,9 @@ made_then f a b first old x mid y new one two =
     record {
       value_is = ap (λ z. f z y) one.value_is ∙ ap (f (a n).value) (two.value_is ∙ ap (λ k. (b k).value) at);
       ranges_are = two.ranges_are
-        ∙ ap (λ k. mid ++ (b k).ranges) at
-        ∙ ap (λ m. m ++ (b (n + length (a n).ranges)).ranges) one.ranges_are
-        ∙ append_assoc old (a n).ranges (b (n + length (a n).ranges)).ranges;
+          ∙ ap (λ k. mid ++ (b k).ranges) at
+          ∙ ap (λ m. m ++ (b (n + length (a n).ranges)).ranges) one.ranges_are
+          ∙ append_assoc old (a n).ranges (b (n + length (a n).ranges)).ranges;
     }
 
 pub made_chosen : (ends : Maker Range) (first : ℕ) (old : List Range) (range : Range) (mid : List Range) (number : ℕ) (new : List Range) → IsMade ends first old range mid → number ≡ first + length mid → new ≡ mid ++ range ∷ [] → IsMade (chosen_of ends) first old (ChosenOf number) new
@@ -43,9 +43,9 @@ made_chosen ends first old range mid number new made is e =
     record {
       value_is = ap ChosenOf (is ∙ at);
       ranges_are = e
-        ∙ ap (λ r. mid ++ r ∷ []) made.value_is
-        ∙ ap (λ m. m ++ (ends n).value ∷ []) made.ranges_are
-        ∙ append_assoc old (ends n).ranges ((ends n).value ∷ []);
+          ∙ ap (λ r. mid ++ r ∷ []) made.value_is
+          ∙ ap (λ m. m ++ (ends n).value ∷ []) made.ranges_are
+          ∙ append_assoc old (ends n).ranges ((ends n).value ∷ []);
     }
 
 -- makers in order, and one more
@@ -59,8 +59,8 @@ in_order_push (m ∷ makes) make n =
     let next = n + length (m n).ranges in
     let before = in_order makes next in
     let at : next + length before.ranges ≡ n + length ((m n).ranges ++ before.ranges) =
-        let both : length ((m n).ranges ++ before.ranges) ≡ length (m n).ranges + length before.ranges = length-append (m n).ranges before.ranges in
-        omega (arith, both) in
+    let both : length ((m n).ranges ++ before.ranges) ≡ length (m n).ranges + length before.ranges = length-append (m n).ranges before.ranges in
+    omega (arith, both) in
     ap (λ r. record { value = (m n).value ∷ r.value; ranges = (m n).ranges ++ r.ranges }) (in_order_push makes make next)
     ∙ ap (λ k. record { value = (m n).value ∷ before.value ++ (make k).value ∷ []; ranges = (m n).ranges ++ (before.ranges ++ (make k).ranges) }) at
     ∙ ap (λ r. record { value = (m n).value ∷ before.value ++ (make (n + length ((m n).ranges ++ before.ranges))).value ∷ []; ranges = r }) (sym (append_assoc (m n).ranges before.ranges (make (n + length ((m n).ranges ++ before.ranges))).ranges))
@@ -75,11 +75,11 @@ pub made_next : (ts : List TextTerm) (i : ℕ) (t : TextTerm) (first : ℕ) (old
 made_next ts i t first old made mid p new inside is so_far one =
     let up : take (i + 1) ts ≡ take i ts ++ t ∷ [] = take_more ts i t inside ∙ ap (λ y. take i ts ++ y ∷ []) (sym is) in
     let same : (n : ℕ) → then_with (λ xs x. xs ++ x ∷ []) (all_ranged (take i ts)) (ranged t) n ≡ all_ranged (take (i + 1) ts) n = λ n.
-        sym (in_order_push (map ranged (take i ts)) (ranged t) n)
-        ∙ ap (λ l. in_order l n) (sym (map-append ranged (take i ts) (t ∷ [])))
-        ∙ ap (λ l. all_ranged l n) (sym up) in
+    sym (in_order_push (map ranged (take i ts)) (ranged t) n)
+    ∙ ap (λ l. in_order l n) (sym (map-append ranged (take i ts) (t ∷ [])))
+    ∙ ap (λ l. all_ranged l n) (sym up) in
     made_alike (then_with (λ xs x. xs ++ x ∷ []) (all_ranged (take i ts)) (ranged t)) (all_ranged (take (i + 1) ts)) same first old (made ++ p ∷ []) new
-      (made_then (λ xs x. xs ++ x ∷ []) (all_ranged (take i ts)) (ranged t) first old made mid p new so_far one)
+    (made_then (λ xs x. xs ++ x ∷ []) (all_ranged (take i ts)) (ranged t) first old made mid p new so_far one)
 
 pub made_no_terms : (first : ℕ) (old : List Range) → IsMade (all_ranged []) first old [] old
 unfolding in_order
@@ -114,16 +114,16 @@ module _ (first : ℕ) (old : List Range) (x : Pattern) (mid : List Range) (y : 
   both_made : {A : Type 0} (f : Pattern → Pattern → A) (l r left right : TextTerm) → left ≡ l → right ≡ r → IsMade (ranged left) first old x mid → IsMade (ranged right) first mid y next → IsMade (then_with f (ranged l) (ranged r)) first old (f x y) next
   both_made f l r left right is_left is_right one two =
       made_then f (ranged l) (ranged r) first old x mid y next
-        (subst (λ (s : TextTerm). IsMade (ranged s) first old x mid) is_left one)
-        (subst (λ (s : TextTerm). IsMade (ranged s) first mid y next) is_right two)
+      (subst (λ (s : TextTerm). IsMade (ranged s) first old x mid) is_left one)
+      (subst (λ (s : TextTerm). IsMade (ranged s) first mid y next) is_right two)
 
   pub made_interval : (t l r left right : TextTerm) (number : ℕ) (new : List Range) → t ≡ text.Interval l r → left ≡ l → right ≡ r → IsMade (ranged left) first old x mid → IsMade (ranged right) first mid y next → number ≡ first + length next → new ≡ next ++ range_of x y ∷ [] → IsMade (ranged t) first old (ChosenOf number) new
   made_interval t l r left right number new is is_left is_right one two at pushed =
       subst (λ (m : Maker Pattern). IsMade m first old (ChosenOf number) new) (sym (ap ranged is ∙ ranged_interval l r))
-        (made_chosen (then_with range_of (ranged l) (ranged r)) first old (range_of x y) next number new (both_made range_of l r left right is_left is_right one two) at pushed)
+      (made_chosen (then_with range_of (ranged l) (ranged r)) first old (range_of x y) next number new (both_made range_of l r left right is_left is_right one two) at pushed)
 
   pub made_binary : (t l r left right : TextTerm) (op : Op) (a b : Pattern) → t ≡ text.Binary op l r → left ≡ l → right ≡ r → IsMade (ranged left) first old x mid → IsMade (ranged right) first mid y next → a ≡ x → b ≡ y → IsMade (ranged t) first old (Binary op a b) next
   made_binary t l r left right op a b is is_left is_right one two is_a is_b =
       subst (λ (m : Maker Pattern). IsMade m first old (Binary op a b) next) (sym (ap ranged is ∙ ranged_binary op l r))
-        (subst (λ p. IsMade (then_with (Binary op) (ranged l) (ranged r)) first old p next) (sym (ap (λ p. Binary op p b) is_a ∙ ap (Binary op x) is_b))
-          (both_made (Binary op) l r left right is_left is_right one two))
+      (subst (λ p. IsMade (then_with (Binary op) (ranged l) (ranged r)) first old p next) (sym (ap (λ p. Binary op p b) is_a ∙ ap (Binary op x) is_b))
+      (both_made (Binary op) l r left right is_left is_right one two))

@@ -157,12 +157,7 @@ pub(crate) fn with_set(
 }
 
 /// The body with one more part. The ranges of elements are numbered from `first` on.
-fn with_part(
-    alloc: Global,
-    first: usize,
-    body: Body,
-    part: &BodyLit,
-) -> Result<Body, OutOfMemory>
+fn with_part(alloc: Global, first: usize, body: Body, part: &BodyLit) -> Result<Body, OutOfMemory>
     ensures { IfOk result (λ made. made ≡ with_part first body part.now) }
 {
     match part {

@@ -36,7 +36,15 @@ pub(crate) fn core_of_statements(
 {
     let mut rules = Seq::new(alloc);
     for statement in said {
-        append_statement(alloc, parts, &statement.0, &statement.1, name, args, &mut rules)?;
+        append_statement(
+            alloc,
+            parts,
+            &statement.0,
+            &statement.1,
+            name,
+            args,
+            &mut rules,
+        )?;
     }
     Ok(rules)
 }

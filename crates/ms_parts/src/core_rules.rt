@@ -128,11 +128,7 @@ fn numbered_bound(
 }
 
 /// The constraint that the number of chosen atoms isn't outside the bounds where the body holds.
-fn core_bound(
-    alloc: Global,
-    parts: &[BodyLit],
-    set: &TextSet,
-) -> Result<CoreRule, OutOfMemory>
+fn core_bound(alloc: Global, parts: &[BodyLit], set: &TextSet) -> Result<CoreRule, OutOfMemory>
     ensures { IfOk result (λ made. made ≡ core_rule Constraint None (parts.now ++ BodySet true set.now ∷ [])) }
 {
     let rule = numbered_bound(alloc, parts, set, 0)?;

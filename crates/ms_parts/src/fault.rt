@@ -15,7 +15,10 @@ pub enum PartsFault {
 impl fmt::Display for PartsFault {
     fn fmt<W: fmt::Write>(&self, f: &mut fmt::Formatter<W>) -> fmt::Result {
         match self {
-            PartsFault::ConstTwice { line } => write!(f, "a constant is defined again in line {line}"),
+            PartsFault::ConstTwice { line } => write!(
+                f,
+                "a constant is defined again in line {line}"
+            ),
             PartsFault::OutOfMemory => f.write_str("out of memory"),
         }
     }

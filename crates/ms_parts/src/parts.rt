@@ -100,17 +100,14 @@ impl Parts {
     fn shows_form(&self, name: &[u8], arity: usize) -> bool
         ensures { result ≡ list_any (λ statement. shows_form name.now arity statement.1) self.now.said }
     {
-        self.said.iter().any(|(_, form)| shows_form(name, arity, form))
+        self.said
+            .iter()
+            .any(|(_, form)| shows_form(name, arity, form))
     }
 
     /// The core rules of a part with these arguments: those of its statements, in the order of the texts. A part
     /// without statements has none. More ranges in a rule than a `u32` counts are as much as want of memory.
-    pub fn core(
-        &self,
-        alloc: Global,
-        name: &[u8],
-        args: &[Value],
-    ) -> Result<CoreRules, OutOfMemory>
+    pub fn core(&self, alloc: Global, name: &[u8], args: &[Value]) -> Result<CoreRules, OutOfMemory>
         ensures { IfOk result (λ rules. rules ≡ core_of_call self.now name.now args.now) }
     {
         core_of_statements(alloc, self, self.said.as_slice(), name, args)
@@ -129,7 +126,10 @@ fn shows_form(name: &[u8], arity: usize, form: &Form) -> bool
     ensures { result ≡ shows_form name.now arity form.now }
 {
     match form {
-        Form::Show { name: shown, arity: count } => shown.as_slice() == name && *count == arity as u64,
+        Form::Show {
+            name: shown,
+            arity: count,
+        } => shown.as_slice() == name && *count == arity as u64,
         _ => false,
     }
 }

@@ -42,10 +42,7 @@ pub(crate) fn copies(alloc: Global, term: &TextTerm) -> Result<Seq<TextTerm>, Ou
 
 /// The copies of all alternatives, one alternative after the other.
 #[cycle(copies)]
-fn copies_of_alternatives(
-    alloc: Global,
-    terms: &[TextTerm],
-) -> Result<Seq<TextTerm>, OutOfMemory>
+fn copies_of_alternatives(alloc: Global, terms: &[TextTerm]) -> Result<Seq<TextTerm>, OutOfMemory>
     ensures { IfOk result (λ made. made ≡ flat_map (λ copies. copies) (map copies terms.now)) }
 {
     let mut made = Vec::new(alloc);
@@ -58,10 +55,7 @@ fn copies_of_alternatives(
 
 /// The lists of arguments, one alternative after the other.
 #[cycle(copies)]
-fn copies_of_lists(
-    alloc: Global,
-    lists: &[TextTerms],
-) -> Result<Seq<Seq<TextTerm>>, OutOfMemory>
+fn copies_of_lists(alloc: Global, lists: &[TextTerms]) -> Result<Seq<Seq<TextTerm>>, OutOfMemory>
     ensures { IfOk result (λ made. made ≡ flat_map choices (map (map copies) lists.now)) }
 {
     let mut made = Vec::new(alloc);

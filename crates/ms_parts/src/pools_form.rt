@@ -70,10 +70,7 @@ fn tests(
 }
 
 /// The lists that have a copy of each literal, at its place.
-fn copies_of_literals(
-    alloc: Global,
-    literals: &[TextLit],
-) -> Result<Seq<Seq<TextLit>>, OutOfMemory>
+fn copies_of_literals(alloc: Global, literals: &[TextLit]) -> Result<Seq<Seq<TextLit>>, OutOfMemory>
     ensures { IfOk result (λ made. made ≡ copies_of_all literal_copies literals.now) }
 {
     let mut rows = single(alloc, Seq::new(alloc))?;
@@ -109,10 +106,7 @@ fn guards(
     Ok(made)
 }
 
-fn set_element_copies(
-    alloc: Global,
-    element: &SetElement,
-) -> Result<Seq<SetElement>, OutOfMemory>
+fn set_element_copies(alloc: Global, element: &SetElement) -> Result<Seq<SetElement>, OutOfMemory>
     ensures { IfOk result (λ made. made ≡ set_element_copies element.now) }
 {
     let atoms = copies(alloc, &element.atom)?;
@@ -157,10 +151,7 @@ fn elements(
     Ok(made)
 }
 
-fn set_elements_copies(
-    alloc: Global,
-    elements: &[SetElement],
-) -> Result<SetElements, OutOfMemory>
+fn set_elements_copies(alloc: Global, elements: &[SetElement]) -> Result<SetElements, OutOfMemory>
     ensures { IfOk result (λ made. made ≡ flat_map set_element_copies elements.now) }
 {
     let mut made = Vec::new(alloc);
@@ -309,11 +300,7 @@ fn literal_parts(alloc: Global, literals: Seq<TextLit>) -> Result<Seq<BodyLit>, 
     Ok(made)
 }
 
-fn set_parts(
-    alloc: Global,
-    negated: bool,
-    sets: Seq<TextSet>,
-) -> Result<Seq<BodyLit>, OutOfMemory>
+fn set_parts(alloc: Global, negated: bool, sets: Seq<TextSet>) -> Result<Seq<BodyLit>, OutOfMemory>
     ensures { IfOk result (λ made. made ≡ map (BodyLit.Set negated) sets) }
 {
     let mut made = Seq::new(alloc);

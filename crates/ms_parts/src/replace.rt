@@ -42,16 +42,29 @@ fn value_terms(alloc: Global, values: &[Value]) -> Result<TextTerms, OutOfMemory
 
 /// A term with each name without arguments that stands for a value replaced.
 #[cycle(replaced)]
-pub(crate) fn replaced(alloc: Global, means: &Meanings, term: &TextTerm) -> Result<TextTerm, OutOfMemory>
+pub(crate) fn replaced(
+    alloc: Global,
+    means: &Meanings,
+    term: &TextTerm,
+) -> Result<TextTerm, OutOfMemory>
     ensures { IfOk result (λ made. made ≡ replaced (meant means.now) term.now) }
 {
     match term {
         TextTerm::Number(n) => Ok(TextTerm::Number(*n)),
         TextTerm::Text(bytes) => Ok(TextTerm::Text(duplicate_bytes(alloc, bytes)?)),
         TextTerm::Function(name, lists) => {
-            named(alloc, means, name, replaced_lists(alloc, means, lists.as_slice())?)
+            named(
+                alloc,
+                means,
+                name,
+                replaced_lists(alloc, means, lists.as_slice())?,
+            )
         }
-        TextTerm::Pool(terms) => Ok(TextTerm::Pool(replaced_terms(alloc, means, terms.as_slice())?)),
+        TextTerm::Pool(terms) => Ok(TextTerm::Pool(replaced_terms(
+            alloc,
+            means,
+            terms.as_slice(),
+        )?)),
         TextTerm::Interval(low, high) => Ok(TextTerm::Interval(
             replaced_inner(alloc, means, low)?,
             replaced_inner(alloc, means, high)?,
@@ -67,14 +80,22 @@ pub(crate) fn replaced(alloc: Global, means: &Meanings, term: &TextTerm) -> Resu
 }
 
 #[cycle(replaced)]
-fn replaced_inner(alloc: Global, means: &Meanings, term: &Boxed<TextTerm>) -> Result<Boxed<TextTerm>, OutOfMemory>
+fn replaced_inner(
+    alloc: Global,
+    means: &Meanings,
+    term: &Boxed<TextTerm>,
+) -> Result<Boxed<TextTerm>, OutOfMemory>
     ensures { IfOk result (λ made. made ≡ replaced (meant means.now) term.now) }
 {
     Ok(Boxed::new(alloc, replaced(alloc, means, term.get())?)?)
 }
 
 #[cycle(replaced)]
-pub(crate) fn replaced_terms(alloc: Global, means: &Meanings, terms: &[TextTerm]) -> Result<TextTerms, OutOfMemory>
+pub(crate) fn replaced_terms(
+    alloc: Global,
+    means: &Meanings,
+    terms: &[TextTerm],
+) -> Result<TextTerms, OutOfMemory>
     ensures { IfOk result (λ made. made ≡ map (replaced (meant means.now)) terms.now) }
 {
     let mut made = Items::new(alloc);
@@ -85,7 +106,11 @@ pub(crate) fn replaced_terms(alloc: Global, means: &Meanings, terms: &[TextTerm]
 }
 
 #[cycle(replaced)]
-fn replaced_lists(alloc: Global, means: &Meanings, lists: &[TextTerms]) -> Result<TermLists, OutOfMemory>
+fn replaced_lists(
+    alloc: Global,
+    means: &Meanings,
+    lists: &[TextTerms],
+) -> Result<TermLists, OutOfMemory>
     ensures { IfOk result (λ made. made ≡ map (map (replaced (meant means.now))) lists.now) }
 {
     let mut made = Items::new(alloc);
@@ -96,7 +121,12 @@ fn replaced_lists(alloc: Global, means: &Meanings, lists: &[TextTerms]) -> Resul
 }
 
 /// The term of a name with lists of arguments in which names have been replaced.
-fn named(alloc: Global, means: &Meanings, name: &Bytes, lists: TermLists) -> Result<TextTerm, OutOfMemory>
+fn named(
+    alloc: Global,
+    means: &Meanings,
+    name: &Bytes,
+    lists: TermLists,
+) -> Result<TextTerm, OutOfMemory>
     ensures { IfOk result (λ made. made ≡ replace_step (meant means.now) (TextTerm-F.Function name.now lists)) }
 {
     let value = match lists.as_slice() {
@@ -110,7 +140,11 @@ fn named(alloc: Global, means: &Meanings, name: &Bytes, lists: TermLists) -> Res
 }
 
 /// An atom with names replaced in its arguments.
-pub(crate) fn replaced_atom(alloc: Global, means: &Meanings, atom: &TextTerm) -> Result<TextTerm, OutOfMemory>
+pub(crate) fn replaced_atom(
+    alloc: Global,
+    means: &Meanings,
+    atom: &TextTerm,
+) -> Result<TextTerm, OutOfMemory>
     ensures { IfOk result (λ made. made ≡ replaced_atom (meant means.now) atom.now) }
 {
     match atom {

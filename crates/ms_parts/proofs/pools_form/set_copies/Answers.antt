@@ -10,9 +10,9 @@ returns c =
     let elements = c.in_ok-elements.elements in
     let set = c.args.set.now in
     let same : map (set_of elements) c.in_ok-pairs.field-0 ≡ set_copies set =
-        ap (map (set_of elements)) c.in_ok-pairs.ensures
-        ∙ map_pairs (set_of elements) c.in_ok-lefts.lefts c.in_ok-rights.rights
-        ∙ ap (λ l. pairs_with (λ x y. set_of elements (x, y)) l c.in_ok-rights.rights) c.in_ok-lefts.ensures
-        ∙ ap (λ r. pairs_with (λ x y. set_of elements (x, y)) (guard_copies set.left) r) c.in_ok-rights.ensures
-        ∙ ap (λ es. pairs_with (λ x y. set_of es (x, y)) (guard_copies set.left) (guard_copies set.right)) (c.in_ok-elements.ensures ∙ ap (flat_map set_element_copies) c.as_slice.ensures) in
+    ap (map (set_of elements)) c.in_ok-pairs.ensures
+    ∙ map_pairs (set_of elements) c.in_ok-lefts.lefts c.in_ok-rights.rights
+    ∙ ap (λ l. pairs_with (λ x y. set_of elements (x, y)) l c.in_ok-rights.rights) c.in_ok-lefts.ensures
+    ∙ ap (λ r. pairs_with (λ x y. set_of elements (x, y)) (guard_copies set.left) r) c.in_ok-rights.ensures
+    ∙ ap (λ es. pairs_with (λ x y. set_of es (x, y)) (guard_copies set.left) (guard_copies set.right)) (c.in_ok-elements.ensures ∙ ap (flat_map set_element_copies) c.as_slice.ensures) in
     subst (λ z. IfOk c.sets.result (λ made. made ≡ z)) same c.sets.ensures

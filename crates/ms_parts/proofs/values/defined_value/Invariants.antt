@@ -1,5 +1,4 @@
 use Rattle.std.proofs.Common.{◌≡◌, drop}
-
 use Rattle.ms_core.specs.Texts.{value_in}
 use Rattle.ms_parts.specs.Definitions.{constants_of}
 use Rattle.ms_parts.proofs.values.defined_value.Given as goal

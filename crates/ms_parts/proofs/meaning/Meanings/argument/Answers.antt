@@ -17,6 +17,6 @@ loop-param-preserved c =
 
 pub returns : goal.returns
 returns c = elim c.in-None.ensures.steps [
-    | inl e ↦ sym (no_argument_left c.args.name.now c.loop-param.param-iterator.a.rest.now c.loop-param.param-iterator.b.rest.now e.1.0) ∙ c.loop-param.invariant
-    | inr e ↦ sym (no_value_left c.args.name.now c.loop-param.param-iterator.a.rest.now c.loop-param.param-iterator.b.rest.now e.1.0) ∙ c.loop-param.invariant
-  ]
+  | inl e ↦ sym (no_argument_left c.args.name.now c.loop-param.param-iterator.a.rest.now c.loop-param.param-iterator.b.rest.now e.1.0) ∙ c.loop-param.invariant
+  | inr e ↦ sym (no_value_left c.args.name.now c.loop-param.param-iterator.a.rest.now c.loop-param.param-iterator.b.rest.now e.1.0) ∙ c.loop-param.invariant
+]
