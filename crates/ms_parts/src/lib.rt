@@ -26,3 +26,6 @@ pub use ms_core::rule::CoreRules;
 pub use ms_grammar::statement::Statements;
 pub use ms_grammar::value::Value;
 pub use parts::Parts;
+
+#[cfg(test)]
+mod tests;
