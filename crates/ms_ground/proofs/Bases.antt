@@ -10,6 +10,7 @@ use Rattle.std.specs.List.Sorted.{IsPermutation, IsSorted}
 use Rattle.std.specs.Ordering.{nat_cmp}
 use Rattle.std.specs.Prelude.{nat_eq}
 use Rattle.ms_machine.specs.declared.plain.PlainRule.{PlainRule}
+use Rattle.ms_machine.specs.Plain.{head_name}
 use Rattle.ms_machine.specs.Grounding.{AtomName, IsBaseOf}
 use Rattle.ms_ground.proofs.Members.{Contains-map, Contains-from_map, Any-from_filter_map, Contains-filter_map}
 use Rattle.ms_ground.proofs.Ordered.{IsStrictlySortedBy-map}
@@ -39,11 +40,11 @@ module _ {X : Type 0} (name_of : X → AtomName) where
         let (x, in_heads, is) = Contains-from_map name_of heads name h in
         subst (Contains (map name_of (dedup same sorted))) is (named_after_dedup sorted x (Contains-permutation heads sorted x moved in_heads))
 
-    pub IsBaseOf-from_heads : (texts : List PlainRule) → map name_of heads ≡ filter_map (λ rule. rule.head) texts → IsSorted (λ x y. slice_cmp nat_cmp (name_of x) (name_of y)) sorted → IsBaseOf texts (map name_of (dedup same sorted))
+    pub IsBaseOf-from_heads : (texts : List PlainRule) → map name_of heads ≡ filter_map (λ rule. head_name rule.head) texts → IsSorted (λ x y. slice_cmp nat_cmp (name_of x) (name_of y)) sorted → IsBaseOf texts (map name_of (dedup same sorted))
     IsBaseOf-from_heads texts are in_order = record {
       ordered = IsStrictlySortedBy-map name_of (slice_cmp nat_cmp) _ (IsStrictlySortedBy-dedup (on_texts name_of) (λ x y. texts_ties (name_of x) (name_of y)) sorted in_order);
       heads = λ name. (
-        λ h. Any-from_filter_map (λ rule. rule.head) texts name (rw are at (named_in_heads name h)),
-        λ h. named_in_kept name (rw are (Contains-filter_map (λ rule. rule.head) texts name h)),
+        λ h. Any-from_filter_map (λ rule. head_name rule.head) texts name (rw are at (named_in_heads name h)),
+        λ h. named_in_kept name (rw are (Contains-filter_map (λ rule. head_name rule.head) texts name h)),
       );
     }

@@ -1,5 +1,5 @@
 -- The module of rules: its ground rules as a set, and each of them over the base.
-use Rattle.std.proofs.Common.{ℕ, ◌<◌, List, Option, Some, None, length, get_or}
+use Rattle.std.proofs.Common.{ℕ, ◌<◌, List, Option, length, get_or}
 use Rattle.std.proofs.lemmas.List.Elements.{Contains-get_or}
 use Rattle.std.proofs.lemmas.List.Filters.{All-dedup}
 use Rattle.std.proofs.lemmas.List.Kept.{Contains-dedup, IsStrictlySortedBy-dedup}
@@ -7,6 +7,8 @@ use Rattle.std.proofs.lemmas.List.Sorted.{All-permutation, Contains-permutation}
 use Rattle.std.proofs.lemmas.Option.{slice_get_within}
 use Rattle.std.specs.List.{All, Any, dedup}
 use Rattle.std.specs.List.Sorted.{IsPermutation, IsSorted}
+use Rattle.ms_machine.specs.declared.plain.PlainHead.{PlainHead}
+use Rattle.ms_machine.specs.declared.plain.PlainHead.TheVariants.{Absent, Normal as normal, Choice as choice}
 use Rattle.ms_machine.specs.declared.plain.PlainRule.{PlainRule}
 use Rattle.ms_join.specs.declared.ground_rule.GroundRule.{GroundRule}
 use Rattle.ms_join.specs.declared.ground_rule.GroundKind.{GroundKind}
@@ -44,9 +46,10 @@ module _ (names : List AtomName) (texts : List PlainRule) (rules sorted : List G
 
 -- ---- each rule over the base
 
-HasHead-numbered : (names : List AtomName) (name : Option AtomName) (kind : GroundKind) (number : Option ℕ) → IsNumberedHead names name kind number → HasHead (length names) kind number
-HasHead-numbered names None kind number (is_constraint, none) = rw is_constraint none
-HasHead-numbered names (Some name) kind number (a, is_normal, is, there) = rw (is_normal, is) (slice_get_within names a name there)
+HasHead-numbered : (names : List AtomName) (head : PlainHead) (kind : GroundKind) (number : Option ℕ) → IsNumberedHead names head kind number → HasHead (length names) kind number
+HasHead-numbered names Absent kind number (is_constraint, none) = rw is_constraint none
+HasHead-numbered names (normal name) kind number (a, is_normal, is, there) = rw (is_normal, is) (slice_get_within names a name there)
+HasHead-numbered names (choice name) kind number (a, is_choice, is, there) = rw (is_choice, is) (slice_get_within names a name there)
 
 within_base : (names of : List AtomName) (numbers : List ℕ) → AreNumbers names of numbers → All (λ a. a < length names) numbers
 within_base names of numbers are k d within =

@@ -2,6 +2,7 @@
 ghost use Rattle.std.specs.Prelude.{◌≡◌, IfOk, map};
 ghost use Rattle.std.specs.List.{filter_map};
 ghost use Rattle.ms_machine.specs.Grounding.{IsBaseOf, AreNumbers};
+ghost use Rattle.ms_machine.specs.Plain.{head_name};
 ghost use Rattle.ms_ground.specs.Numbering.{AreNumbersOfAll, IsNumberOf, IsSetOf};
 
 use ms_base::atom_id::AtomId;
@@ -99,11 +100,11 @@ impl Base {
 
 /// The heads of the rules, in the order of the text.
 fn heads(alloc: Global, texts: &[PlainRule]) -> Result<Vec<&Bytes>, OutOfMemory>
-    ensures { IfOk result (λ heads. map (λ head. head.now) heads.items ≡ filter_map (λ rule. rule.head) texts.now) }
+    ensures { IfOk result (λ heads. map (λ head. head.now) heads.items ≡ filter_map (λ rule. head_name rule.head) texts.now) }
 {
     let mut heads = Vec::new(alloc);
     for text in texts {
-        if let Some(head) = &text.head {
+        if let Some(head) = text.head.name() {
             heads.push(head)?;
         }
     }

@@ -2,14 +2,14 @@
 ghost use Rattle.std.specs.Prelude.{Contains, IfOk};
 ghost use Rattle.std.specs.Option.{ForSome};
 ghost use Rattle.ms_machine.specs.Grounding.{IsNumberedHead};
+ghost use Rattle.ms_machine.specs.Plain.{head_name};
 ghost use Rattle.ms_ground.specs.GroundRules.{IsGroundRuleOrNone};
 
 use crate::names::Base;
 use ms_base::atom_id::AtomId;
 use ms_base::memory::OutOfMemory;
-use ms_base::seq::Bytes;
 use ms_join::ground_rule::{GroundKind, GroundRule};
-use ms_machine::plain::PlainRule;
+use ms_machine::plain::{PlainHead, PlainRule};
 use std::alloc::Global;
 
 /// The ground rule of a rule whose head is in the base, or none where a positive atom is outside it.
@@ -18,7 +18,7 @@ pub fn ground_rule(
     base: &Base,
     text: &PlainRule,
 ) -> Result<Option<GroundRule>, OutOfMemory>
-    requires { ForSome text.now.head (Contains base.now) }
+    requires { ForSome (head_name text.now.head) (Contains base.now) }
     ensures { IfOk result (IsGroundRuleOrNone base.now text.now) }
 {
     let Some(pos) = base.numbers_of_all(alloc, text.pos.as_slice())? else {
@@ -34,12 +34,13 @@ pub fn ground_rule(
     }))
 }
 
-fn ground_head(base: &Base, head: &Option<Bytes>) -> (GroundKind, Option<AtomId>)
-    requires { ForSome head.now (Contains base.now) }
+fn ground_head(base: &Base, head: &PlainHead) -> (GroundKind, Option<AtomId>)
+    requires { ForSome (head_name head.now) (Contains base.now) }
     ensures { IsNumberedHead base.now head.now result.0 result.1 }
 {
     match head {
-        Some(name) => (GroundKind::Normal, base.number_of(name)),
-        None => (GroundKind::Constraint, None),
+        PlainHead::Absent => (GroundKind::Constraint, None),
+        PlainHead::Normal(name) => (GroundKind::Normal, base.number_of(name)),
+        PlainHead::Choice(name) => (GroundKind::Choice, base.number_of(name)),
     }
 }

@@ -2,12 +2,12 @@ use crate::ground;
 use ms_base::seq::{Bytes, Seq};
 use ms_grammar::statement::Names;
 use ms_join::ground_rule::AtomIds;
-use ms_machine::plain::PlainRule;
+use ms_machine::plain::{PlainHead, PlainRule};
 use std::alloc::Global;
 use std::test::Fail;
 
-/// A program: the head of each rule, which is empty in a constraint, and the names in its body without and
-/// with `not`.
+/// A program: the head of each rule, which is empty in a constraint and begins with `?` in a choice, and the
+/// names in its body without and with `not`.
 type Program<'a> = &'a [(&'a str, &'a str, &'a str)];
 
 fn name(alloc: Global, text: &str) -> Result<Bytes, Fail> {
@@ -22,15 +22,21 @@ fn names(alloc: Global, text: &str) -> Result<Names, Fail> {
     Ok(names)
 }
 
+fn plain_head(alloc: Global, text: &str) -> Result<PlainHead, Fail> {
+    if text.is_empty() {
+        return Ok(PlainHead::Absent);
+    }
+    Ok(match text.strip_prefix('?') {
+        Some(chosen) => PlainHead::Choice(name(alloc, chosen)?),
+        None => PlainHead::Normal(name(alloc, text)?),
+    })
+}
+
 fn plain_rules(alloc: Global, program: Program) -> Result<Vec<PlainRule>, Fail> {
     let mut rules = Vec::new(alloc);
     for (head, pos, neg) in program {
         rules.push(PlainRule {
-            head: if head.is_empty() {
-                None
-            } else {
-                Some(name(alloc, head)?)
-            },
+            head: plain_head(alloc, head)?,
             pos: names(alloc, pos)?,
             neg: names(alloc, neg)?,
         })?;
@@ -72,7 +78,12 @@ fn shown(alloc: Global, program: Program) -> Result<String, Fail> {
 
 #[test]
 fn modules(rt: HostRuntime) -> Result<(), Fail> {
-    let rows: [(&str, Program, &str); 9] = [
+    let rows: [(&str, Program, &str); 10] = [
+        (
+            "a choice",
+            &[("?a", "", "b"), ("b", "a", "")],
+            "a b ; Normal 1 +0; Choice 0 -1",
+        ),
         (
             "two atoms",
             &[("a", "", "b"), ("b", "", "a")],

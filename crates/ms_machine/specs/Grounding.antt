@@ -5,10 +5,13 @@ use Rattle.std.specs.Prelude.{ℕ, ◌≡◌, ◌≢◌, ◌↔◌, List, Option
 use Rattle.std.specs.List.Sorted.{IsStrictlyIncreasing, IsStrictlySortedBy}
 use Rattle.std.specs.Ordering.{nat_cmp}
 use Rattle.std.specs.Cmp.Lexicographic.{slice_cmp}
+use Rattle.ms_machine.specs.declared.plain.PlainHead.{PlainHead}
+use Rattle.ms_machine.specs.declared.plain.PlainHead.TheVariants.{Absent, Normal as normal, Choice as choice}
 use Rattle.ms_machine.specs.declared.plain.PlainRule.{PlainRule}
+use Rattle.ms_machine.specs.Plain.{head_name}
 use Rattle.ms_join.specs.declared.ground_rule.GroundRule.{GroundRule}
 use Rattle.ms_join.specs.declared.ground_rule.GroundKind.{GroundKind}
-use Rattle.ms_join.specs.declared.ground_rule.GroundKind.TheVariants.{Normal, Constraint}
+use Rattle.ms_join.specs.declared.ground_rule.GroundKind.TheVariants.{Normal, Choice, Constraint}
 
 -- A name of a plain atom, and the order of such atoms as terms: by bytes.
 abbrev pub AtomName : Type 0
@@ -17,16 +20,17 @@ AtomName = List ℕ
 -- The base has exactly the heads of the rules, in term order. The number of an atom is its place there.
 pub record IsBaseOf (texts : List PlainRule) (names : List AtomName) : Type 0 where
   pub ordered : IsStrictlySortedBy (slice_cmp nat_cmp) names
-  pub heads : (name : AtomName) → Contains names name ↔ Any (λ rule. rule.head ≡ Some name) texts
+  pub heads : (name : AtomName) → Contains names name ↔ Any (λ rule. head_name rule.head ≡ Some name) texts
 
 -- The numbers of those of the names that are in the base.
 pub record AreNumbers (names : List AtomName) (of : List AtomName) (numbers : List ℕ) : Type 0 where
   pub rising : IsStrictlyIncreasing numbers
   pub members : (a : ℕ) → Contains numbers a ↔ ((name : AtomName) × Contains of name × (slice_get names a ≡ Some name))
 
-abbrev pub IsNumberedHead : List AtomName → Option AtomName → GroundKind → Option ℕ → Type 0
-IsNumberedHead names None kind number = (kind ≡ Constraint) × (number ≡ None)
-IsNumberedHead names (Some name) kind number = (a : ℕ) × (kind ≡ Normal) × (number ≡ Some a) × (slice_get names a ≡ Some name)
+abbrev pub IsNumberedHead : List AtomName → PlainHead → GroundKind → Option ℕ → Type 0
+IsNumberedHead names Absent kind number = (kind ≡ Constraint) × (number ≡ None)
+IsNumberedHead names (normal name) kind number = (a : ℕ) × (kind ≡ Normal) × (number ≡ Some a) × (slice_get names a ≡ Some name)
+IsNumberedHead names (choice name) kind number = (a : ℕ) × (kind ≡ Choice) × (number ≡ Some a) × (slice_get names a ≡ Some name)
 
 -- The ground rule is the rule over the base: each positive atom is in the base, and the negated atoms
 -- outside it are deleted.

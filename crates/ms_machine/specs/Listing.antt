@@ -1,5 +1,5 @@
 -- The listing of answer sets.
-use Rattle.std.specs.Prelude.{ℕ, ◌≡◌, ◌≢◌, ◌↔◌, ◌<◌, List, Some, All, AllPairs, Contains, length, slice_get}
+use Rattle.std.specs.Prelude.{ℕ, ◌≡◌, ◌≢◌, ◌↔◌, ◌<◌, Bool, IsTrue, List, Some, All, AllPairs, Contains, length, slice_get}
 use Rattle.std.specs.List.{AllZip}
 use Rattle.std.specs.List.Sorted.{IsStrictlySortedBy, IsSorted, IsPermutation}
 use Rattle.std.specs.Ordering.{nat_cmp}
@@ -24,15 +24,15 @@ pub record AreAnswers (n : ℕ) (rules : List GroundRule) (assumptions : List As
 abbrev pub AreAllAnswers : ℕ → List GroundRule → List Assumption → List (List ℕ) → Type 0
 AreAllAnswers n rules assumptions sets = (set : List ℕ) → IsAnswer n rules assumptions set → Contains sets set
 
--- The shown atoms of a set are all its atoms, in term order.
-pub record IsShownList (names : List AtomName) (set : List ℕ) (shown : List AtomName) : Type 0 where
+-- The shown atoms of a set are those of its atoms that pass the test, in term order.
+pub record IsShownList (shows : AtomName → Bool) (names : List AtomName) (set : List ℕ) (shown : List AtomName) : Type 0 where
   pub ordered : IsStrictlySortedBy (slice_cmp nat_cmp) shown
-  pub members : (name : AtomName) → Contains shown name ↔ ((a : ℕ) × Contains set a × (slice_get names a ≡ Some name))
+  pub members : (name : AtomName) → Contains shown name ↔ (IsTrue (shows name) × ((a : ℕ) × Contains set a × (slice_get names a ≡ Some name)))
 
 -- The listing has one shown list for each set, and is sorted: a list comes before each that it begins.
-pub record IsListing (names : List AtomName) (sets : List (List ℕ)) (listing : List (List AtomName)) : Type 0 where
+pub record IsListing (shows : AtomName → Bool) (names : List AtomName) (sets : List (List ℕ)) (listing : List (List AtomName)) : Type 0 where
   pub lists : List (List AtomName)
-  pub shown : AllZip (IsShownList names) sets lists
+  pub shown : AllZip (IsShownList shows names) sets lists
   pub same : IsPermutation lists listing
   pub ordered : IsSorted (slice_cmp (slice_cmp nat_cmp)) listing
 
@@ -46,9 +46,9 @@ EndsAs Complete asked n rules assumptions sets = (length sets < asked) × AreAll
 EndsAs StillOpen asked n rules assumptions sets = length sets ≡ asked
 
 -- What a solve of a join lists that asks for so many answer sets.
-pub record Solves (names : List AtomName) (rules : List GroundRule) (assumptions : List Assumption) (asked : ℕ) (ending : Ending) (count : ℕ) (listing : List (List AtomName)) : Type 0 where
+pub record Solves (shows : AtomName → Bool) (names : List AtomName) (rules : List GroundRule) (assumptions : List Assumption) (asked : ℕ) (ending : Ending) (count : ℕ) (listing : List (List AtomName)) : Type 0 where
   pub sets : List (List ℕ)
   pub true_ones : AreAnswers (length names) rules assumptions sets
   pub ends : EndsAs ending asked (length names) rules assumptions sets
   pub counted : count ≡ length sets
-  pub listed : IsListing names sets listing
+  pub listed : IsListing shows names sets listing

@@ -7,7 +7,7 @@ use Rattle.ms_machine.specs.declared.reply.Reply.TheVariants.{Added, Grounded, S
 use Rattle.ms_machine.specs.declared.reply.Ending.{Ending}
 use Rattle.ms_machine.specs.declared.reply.Ending.TheVariants.{Complete, StillOpen}
 use Rattle.ms_machine.specs.declared.reply.Refusal.{Refusal}
-use Rattle.ms_machine.specs.declared.reply.Refusal.TheVariants.{Command, Unfinished, Syntax, Again, Later, Small}
+use Rattle.ms_machine.specs.declared.reply.Refusal.TheVariants.{Command, Unfinished, Syntax, Const, Again, Later, Small}
 use Rattle.ms_machine.specs.Grounding.{AtomName}
 
 -- a text with its line end
@@ -26,6 +26,7 @@ abbrev pub refusal_line : Refusal → List ℕ
 refusal_line Command = line (codes "refused command")
 refusal_line Unfinished = line (codes "refused unfinished")
 refusal_line (Syntax at) = line (codes "refused syntax " ++ decimal at)
+refusal_line (Const at) = line (codes "refused const " ++ decimal at)
 refusal_line Again = line (codes "refused again")
 refusal_line Later = line (codes "refused later")
 refusal_line Small = line (codes "refused small")

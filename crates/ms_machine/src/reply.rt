@@ -18,6 +18,8 @@ pub enum Refusal {
     Unfinished,
     /// The text isn't in the grammar, for the first time in this line.
     Syntax { line: u64 },
+    /// A constant is defined a second time, for the first time in this line.
+    Const { line: u64 },
     /// The program was grounded before.
     Again,
     /// A statement isn't of a form that is grounded yet.

@@ -1,4 +1,4 @@
-// The rules of plain names that statements are.
+// The rules of plain names that core rules are.
 #![tactic(auto)]
 
 ghost use Rattle.std.specs.Prelude.{◌≡◌, IfOk};
@@ -8,27 +8,24 @@ mod rule;
 
 use ms_base::memory::OutOfMemory;
 use ms_base::seq::Seq;
-use ms_grammar::statement::Statement;
+use ms_core::rule::CoreRule;
 use ms_machine::plain::PlainRules;
 use rule::plain_rule;
 use std::alloc::Global;
 
-/// The rules of plain names that the statements are, in the same order, or none where one of the statements
-/// isn't such a rule.
-pub fn plain_rules(
-    alloc: Global,
-    statements: &[Statement],
-) -> Result<Option<PlainRules>, OutOfMemory>
-    ensures { IfOk result (λ found. found ≡ plain_rules statements.now) }
+/// The rules of plain names that the core rules are, in the same order, or none where one of them isn't such
+/// a rule.
+pub fn plain_rules(alloc: Global, rules: &[CoreRule]) -> Result<Option<PlainRules>, OutOfMemory>
+    ensures { IfOk result (λ found. found ≡ plain_rules rules.now) }
 {
-    let mut rules = Seq::new(alloc);
-    for statement in statements {
-        let Some(rule) = plain_rule(alloc, &statement.form)? else {
+    let mut plain = Seq::new(alloc);
+    for rule in rules {
+        let Some(rule) = plain_rule(alloc, rule)? else {
             return Ok(None);
         };
-        rules.push(rule)?;
+        plain.push(rule)?;
     }
-    Ok(Some(rules))
+    Ok(Some(plain))
 }
 
 #[cfg(test)]

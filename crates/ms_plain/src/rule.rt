@@ -1,80 +1,87 @@
-// The rule of plain names that one statement is.
-ghost use Rattle.std.specs.Prelude.{◌≡◌, [], IfOk};
+// The rule of plain names that one core rule is.
+ghost use Rattle.std.specs.Prelude.{◌≡◌, IfOk, IsTrue};
 ghost use Rattle.std.specs.Option.{option_map};
-ghost use Rattle.ms_machine.specs.Plain.{each_given, plain_literal, plain_name, plain_rule};
-ghost use Rattle.ms_plain.specs.Bodies.{after};
+ghost use Rattle.ms_machine.specs.Plain.{each_given, has_only_atoms, plain_head, plain_name, plain_rule};
 
 use ms_base::memory::OutOfMemory;
 use ms_base::seq::{Bytes, Seq};
-use ms_grammar::statement::{BodyLit, Form, Head, Names, TextLit};
-use ms_grammar::term::TextTerm;
-use ms_machine::plain::PlainRule;
+use ms_core::pattern::Pattern;
+use ms_core::rule::{CoreRule, RuleKind};
+use ms_grammar::statement::Names;
+use ms_machine::plain::{PlainHead, PlainRule};
 use std::alloc::Global;
 
-/// The rule that a statement is, or none where it has another form.
-pub(crate) fn plain_rule(alloc: Global, form: &Form) -> Result<Option<PlainRule>, OutOfMemory>
-    ensures { IfOk result (λ found. found ≡ plain_rule form.now) }
+/// The rule that a core rule is, or none where it has another form.
+pub(crate) fn plain_rule(alloc: Global, rule: &CoreRule) -> Result<Option<PlainRule>, OutOfMemory>
+    ensures { IfOk result (λ found. found ≡ plain_rule rule.now) }
 {
-    let Form::Rule { head, body } = form else {
+    if !has_only_atoms(rule) {
+        return Ok(None);
+    }
+    let Some(head) = plain_head(alloc, rule.kind, &rule.head)? else {
         return Ok(None);
     };
-    let head = match head {
-        Head::Empty if body.is_empty() => return Ok(None),
-        Head::Empty => None,
-        Head::Atom(atom) => {
-            let Some(name) = plain_name(atom) else {
-                return Ok(None);
-            };
-            Some(Seq::copied(alloc, name.as_slice())?)
-        }
-        Head::Set(_) => return Ok(None),
+    let Some(pos) = plain_names(alloc, rule.conds.pos.as_slice())? else {
+        return Ok(None);
     };
-    let Some((pos, neg)) = plain_body(alloc, body.as_slice())? else {
+    let Some(neg) = plain_names(alloc, rule.conds.neg.as_slice())? else {
         return Ok(None);
     };
     Ok(Some(PlainRule { head, pos, neg }))
 }
 
-/// The names of a body without and with `not`, or none where a part of it is no plain literal.
-fn plain_body(alloc: Global, body: &[BodyLit]) -> Result<Option<(Names, Names)>, OutOfMemory>
-    ensures { IfOk result (λ found. found ≡ option_map (after [] []) (each_given plain_literal body.now)) }
+/// Whether the rule has neither comparisons nor ranges nor aggregates.
+fn has_only_atoms(rule: &CoreRule) -> bool
+    ensures { result ≡ has_only_atoms rule.now.conds.tests rule.now.conds.ranges rule.now.aggs }
 {
-    let mut pos = Seq::new(alloc);
-    let mut neg = Seq::new(alloc);
-    for part in body {
-        let Some((truth, name)) = plain_literal(part) else {
-            return Ok(None);
-        };
-        let name = Seq::copied(alloc, name.as_slice())?;
-        if truth {
-            pos.push(name)?;
-        } else {
-            neg.push(name)?;
-        }
-    }
-    Ok(Some((pos, neg)))
+    rule.conds.tests.is_empty() && rule.conds.ranges.is_empty() && rule.aggs.is_empty()
 }
 
-/// The name of a plain literal, which is true where no `not` stands before it.
-fn plain_literal(part: &BodyLit) -> Option<(bool, &Bytes)>
-    ensures { option_map (λ literal. record { truth = literal.0; name = literal.1.now }) result ≡ plain_literal part.now }
+/// The head of a plain rule, or none where the rule is an external or its head has arguments.
+fn plain_head(
+    alloc: Global,
+    kind: RuleKind,
+    head: &Option<Pattern>,
+) -> Result<Option<PlainHead>, OutOfMemory>
+    ensures { IfOk result (λ found. found ≡ plain_head kind head.now) }
 {
-    match part {
-        BodyLit::Lit(TextLit::Positive(atom)) => plain_name(atom).map(|name| (true, name)),
-        BodyLit::Lit(TextLit::Negated(atom)) => plain_name(atom).map(|name| (false, name)),
-        _ => None,
+    match (kind, head) {
+        (RuleKind::Constraint, None) => Ok(Some(PlainHead::Absent)),
+        (RuleKind::Normal, Some(atom)) => Ok(copied_name(alloc, atom)?.map(PlainHead::Normal)),
+        (RuleKind::Choice, Some(atom)) => Ok(copied_name(alloc, atom)?.map(PlainHead::Choice)),
+        _ => Ok(None),
     }
+}
+
+/// The names of atoms without arguments, or none where one of them has arguments.
+fn plain_names(alloc: Global, atoms: &[Pattern]) -> Result<Option<Names>, OutOfMemory>
+    ensures { IfOk result (λ found. found ≡ each_given plain_name atoms.now) }
+{
+    let mut names = Seq::new(alloc);
+    for atom in atoms {
+        let Some(name) = copied_name(alloc, atom)? else {
+            return Ok(None);
+        };
+        names.push(name)?;
+    }
+    Ok(Some(names))
 }
 
 /// The name of an atom without arguments.
-fn plain_name(atom: &TextTerm) -> Option<&Bytes>
+fn copied_name(alloc: Global, atom: &Pattern) -> Result<Option<Bytes>, OutOfMemory>
+    ensures { IfOk result (λ found. found ≡ plain_name atom.now) }
+{
+    match plain_name(atom) {
+        Some(name) => Ok(Some(Seq::copied(alloc, name.as_slice())?)),
+        None => Ok(None),
+    }
+}
+
+fn plain_name(atom: &Pattern) -> Option<&Bytes>
     ensures { option_map (λ name. name.now) result ≡ plain_name atom.now }
 {
     match atom {
-        TextTerm::Function(name, lists) => match lists.as_slice() {
-            [list] if list.is_empty() => Some(name),
-            _ => None,
-        },
+        Pattern::Function(name, args) if args.is_empty() => Some(name),
         _ => None,
     }
 }

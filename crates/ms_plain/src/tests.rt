@@ -1,7 +1,9 @@
 use crate::plain_rules;
 use ms_base::seq::{Bytes, Seq};
-use ms_grammar::statement::{BodyLit, Cmp, Form, Head, Names, Statement, TextLit, TextSet};
-use ms_grammar::term::TextTerm;
+use ms_core::pattern::{Pattern, Patterns};
+use ms_core::rule::{Cmp, Conds, CoreRule, Range, RuleKind, Test};
+use ms_grammar::statement::Names;
+use ms_machine::plain::PlainHead;
 use sqlite_items::Items;
 use std::alloc::Global;
 use std::test::Fail;
@@ -10,43 +12,57 @@ fn bytes(alloc: Global, text: &str) -> Result<Bytes, Fail> {
     Ok(Seq::copied(alloc, text.as_bytes())?)
 }
 
-/// An atom with as many empty lists of arguments as are asked for.
-fn atom(alloc: Global, name: &str, lists: usize) -> Result<TextTerm, Fail> {
-    let mut all = Items::new(alloc);
-    for _ in 0..lists {
-        all.push(Items::new(alloc))?;
+/// An atom, with the number 1 as its argument where it is asked for.
+fn atom(alloc: Global, name: &str, with_argument: bool) -> Result<Pattern, Fail> {
+    let mut args = Items::new(alloc);
+    if with_argument {
+        args.push(Pattern::Number(1))?;
     }
-    Ok(TextTerm::Function(bytes(alloc, name)?, all))
+    Ok(Pattern::Function(bytes(alloc, name)?, args))
 }
 
-fn plain(alloc: Global, name: &str) -> Result<TextTerm, Fail> {
-    atom(alloc, name, 1)
-}
-
-/// A body in which names behind a `-` are negated.
-fn body(alloc: Global, text: &str) -> Result<Seq<BodyLit>, Fail> {
-    let mut parts = Seq::new(alloc);
+fn atoms(alloc: Global, text: &str) -> Result<Patterns, Fail> {
+    let mut atoms = Items::new(alloc);
     for word in text.split_whitespace() {
-        let literal = match word.strip_prefix('-') {
-            Some(name) => TextLit::Negated(plain(alloc, name)?),
-            None => TextLit::Positive(plain(alloc, word)?),
-        };
-        parts.push(BodyLit::Lit(literal))?;
+        atoms.push(atom(alloc, word, false)?)?;
     }
-    Ok(parts)
+    Ok(atoms)
 }
 
-/// The rules of a text of one statement, or `none`.
-fn shown(alloc: Global, form: Form) -> Result<String, Fail> {
+/// A rule of plain names.
+fn rule(
+    alloc: Global,
+    kind: RuleKind,
+    head: Option<Pattern>,
+    pos: &str,
+    neg: &str,
+) -> Result<CoreRule, Fail> {
+    Ok(CoreRule {
+        kind,
+        head,
+        conds: Conds {
+            pos: atoms(alloc, pos)?,
+            neg: atoms(alloc, neg)?,
+            tests: Seq::new(alloc),
+            ranges: Seq::new(alloc),
+        },
+        aggs: Seq::new(alloc),
+    })
+}
+
+/// The plain rule of one core rule, or `none`.
+fn shown(alloc: Global, rule: CoreRule) -> Result<String, Fail> {
     let mut text = String::new(alloc);
-    let statements = [Statement { line: 1, form }];
-    let Some(rules) = plain_rules(alloc, statements.as_slice())? else {
+    let rules = [rule];
+    let Some(plain) = plain_rules(alloc, rules.as_slice())? else {
         text.push_str("none")?;
         return Ok(text);
     };
-    for rule in rules.as_slice() {
-        if let Some(head) = &rule.head {
-            show(&mut text, "", head)?;
+    for rule in plain.as_slice() {
+        match &rule.head {
+            PlainHead::Absent => {}
+            PlainHead::Normal(name) => show(&mut text, "", name)?,
+            PlainHead::Choice(name) => show(&mut text, "?", name)?,
         }
         show_all(&mut text, "+", &rule.pos)?;
         show_all(&mut text, "-", &rule.neg)?;
@@ -73,59 +89,63 @@ fn show_all(text: &mut String, sign: &str, names: &Names) -> Result<(), Fail> {
 #[test]
 fn forms(rt: HostRuntime) -> Result<(), Fail> {
     let alloc = rt.alloc();
-    let rule = Form::Rule {
-        head: Head::Atom(plain(alloc, "a")?),
-        body: body(alloc, "b -c d -e")?,
-    };
-    assert_eq!(rt; shown(alloc, rule)?.as_str(), "a +b +d -c -e ", "a rule");
-    let constraint = Form::Rule {
-        head: Head::Empty,
-        body: body(alloc, "-b")?,
-    };
-    assert_eq!(rt; shown(alloc, constraint)?.as_str(), "-b ", "a constraint");
-    let no_rule = Form::Rule {
-        head: Head::Empty,
-        body: Seq::new(alloc),
-    };
+    let normal = rule(
+        alloc,
+        RuleKind::Normal,
+        Some(atom(alloc, "a", false)?),
+        "b d",
+        "c",
+    )?;
+    assert_eq!(rt; shown(alloc, normal)?.as_str(), "a +b +d -c ", "a rule");
+    let choice = rule(
+        alloc,
+        RuleKind::Choice,
+        Some(atom(alloc, "a", false)?),
+        "",
+        "c",
+    )?;
+    assert_eq!(rt; shown(alloc, choice)?.as_str(), "?a -c ", "a choice");
+    let constraint = rule(alloc, RuleKind::Constraint, None, "b", "")?;
+    assert_eq!(rt; shown(alloc, constraint)?.as_str(), "+b ", "a constraint");
+    let external = rule(
+        alloc,
+        RuleKind::External,
+        Some(atom(alloc, "a", false)?),
+        "",
+        "",
+    )?;
+    assert_eq!(rt; shown(alloc, external)?.as_str(), "none", "an external");
+    let argument = rule(
+        alloc,
+        RuleKind::Normal,
+        Some(atom(alloc, "a", true)?),
+        "",
+        "",
+    )?;
     assert_eq!(rt;
-        shown(alloc, no_rule)?.as_str(),
+        shown(alloc, argument)?.as_str(),
         "none",
-        "neither head nor body"
+        "an argument of a head"
     );
-    let with_pool = Form::Rule {
-        head: Head::Atom(atom(alloc, "a", 2)?),
-        body: Seq::new(alloc),
-    };
+    let mut below = rule(alloc, RuleKind::Constraint, None, "b", "")?;
+    below.conds.neg.push(atom(alloc, "c", true)?)?;
     assert_eq!(rt;
-        shown(alloc, with_pool)?.as_str(),
+        shown(alloc, below)?.as_str(),
         "none",
-        "alternatives of arguments"
+        "an argument in a body"
     );
-    let set = TextSet {
-        left: None,
-        elements: Seq::new(alloc),
-        right: None,
-    };
-    let choice = Form::Rule {
-        head: Head::Set(set),
-        body: Seq::new(alloc),
-    };
-    assert_eq!(rt; shown(alloc, choice)?.as_str(), "none", "a choice");
-    let mut tests = Seq::new(alloc);
-    tests.push(BodyLit::Lit(TextLit::Test {
-        left: TextTerm::Number(1),
+    let mut comparison = rule(alloc, RuleKind::Constraint, None, "b", "")?;
+    comparison.conds.tests.push(Test {
+        left: Pattern::Number(1),
         cmp: Cmp::Lt,
-        right: TextTerm::Number(2),
-    }))?;
-    let comparison = Form::Rule {
-        head: Head::Empty,
-        body: tests,
-    };
+        right: Pattern::Number(2),
+    })?;
     assert_eq!(rt; shown(alloc, comparison)?.as_str(), "none", "a comparison");
-    assert_eq!(rt;
-        shown(alloc, Form::ShowNone)?.as_str(),
-        "none",
-        "a directive"
-    );
+    let mut range = rule(alloc, RuleKind::Constraint, None, "b", "")?;
+    range.conds.ranges.push(Range {
+        low: Pattern::Number(1),
+        high: Pattern::Number(2),
+    })?;
+    assert_eq!(rt; shown(alloc, range)?.as_str(), "none", "a range");
     Ok(())
 }

@@ -1,5 +1,5 @@
 -- What a rule asks for is in each model of the reduct, and a mark keeps the marked atoms within the models.
-use Rattle.std.proofs.Common.{◌≡◌, ◌<◌, ℕ, Bool, true, false, not, cond, IsTrue, List, [], ◌∷◌, Some, length, get_or, set, refl, sym, subst, ◌∙◌, ap, ⊎_elim, arith}
+use Rattle.std.proofs.Common.{◌≡◌, ◌<◌, ℕ, Bool, true, false, not, cond, IsTrue, List, [], ◌∷◌, Option, Some, length, get_or, set, refl, sym, subst, ◌∙◌, ap, ⊎_elim, arith}
 use Rattle.std.specs.Option.{IsSomeAnd}
 use Rattle.std.specs.Bool.{⊤}
 use Rattle.std.specs.List.{list_all}
@@ -8,10 +8,11 @@ use Rattle.std.proofs.lemmas.List.{get_or-set_other}
 use Rattle.std.proofs.lemmas.List.Sums.{sum_by-set}
 use Rattle.std.proofs.lemmas.Option.{MatchOption-at_some}
 use Rattle.ms_join.specs.declared.ground_rule.GroundRule.{GroundRule}
-use Rattle.ms_join.specs.declared.ground_rule.GroundKind.TheVariants.{Normal}
+use Rattle.ms_join.specs.declared.ground_rule.GroundKind.{GroundKind}
+use Rattle.ms_join.specs.declared.ground_rule.GroundKind.TheVariants.{Normal, Choice, Constraint}
 use Rattle.ms_join.specs.AnswerSets.{has_all, has_none, Keeps, IsReductModel, IsRuleOver, HasHead}
 use Rattle.ms_rules.specs.Flags.{flag_at}
-use Rattle.ms_rules.specs.LeastModel.{AsksFor, IsWithinModels, unmarked_count}
+use Rattle.ms_rules.specs.LeastModel.{AsksFor, MayAsk, IsWithinModels, unmarked_count}
 
 -- a larger set has all that a smaller one has
 pub list_all-larger : (p q : ℕ → Bool) → ((a : ℕ) → IsTrue (p a) → IsTrue (q a)) → (xs : List ℕ) → IsTrue (list_all p xs) → IsTrue (list_all q xs)
@@ -20,16 +21,17 @@ list_all-larger p q h (x ∷ xs) e =
     let parts = and_parts (p x) (list_all p xs) e in
     and_from (q x) (list_all q xs) (h x parts.0) (list_all-larger p q h xs parts.1)
 
-kept_head : (by of : ℕ → Bool) (rule : GroundRule) (a : ℕ) → rule.kind ≡ Normal → IsTrue (has_none by rule.neg) → IsTrue (has_all of rule.pos) → rule.head ≡ Some a → Keeps by of rule.kind rule → IsTrue (of a)
-kept_head by of rule a kind neg pos head keeps =
-    let normal : Keeps by of Normal rule = subst (λ k. Keeps by of k rule) kind keeps in
-    MatchOption-at_some ⊤ (λ h. IsTrue (of h)) a head (normal neg pos)
+kept_by_kind : (by of : ℕ → Bool) (kind : GroundKind) (rule : GroundRule) (a : ℕ) → MayAsk by kind a → IsTrue (has_none by rule.neg) → IsTrue (has_all of rule.pos) → rule.head ≡ Some a → Keeps by of kind rule → IsTrue (of a)
+kept_by_kind by of Normal rule a may neg pos head keeps = MatchOption-at_some ⊤ (λ h. IsTrue (of h)) a head (keeps neg pos)
+kept_by_kind by of Choice rule a may neg pos head keeps =
+    MatchOption-at_some ⊤ (λ h. IsTrue (by h) → IsTrue (has_none by rule.neg) → IsTrue (has_all of rule.pos) → IsTrue (of h)) a head keeps may neg pos
+kept_by_kind by of Constraint rule a may neg pos head keeps = absurd may
 
 -- what a rule asks for is in each model
 pub asked_in_models : (rules : List GroundRule) (by of : ℕ → Bool) (k : ℕ) (rule : GroundRule) (a : ℕ) → k < length rules → rule ≡ get_or rules k rule → IsWithinModels rules by of → AsksFor by of rule a → (other : ℕ → Bool) → IsReductModel rules by other → IsTrue (other a)
 asked_in_models rules by of k rule a lt read below asks other model =
     let keeps : Keeps by other rule.kind rule = subst (λ r. Keeps by other r.kind r) (sym read) (model k rule lt) in
-    kept_head by other rule a asks.kind asks.neg (list_all-larger of other (below.within other model) rule.pos asks.pos) asks.head keeps
+    kept_by_kind by other rule.kind rule a asks.kind asks.neg (list_all-larger of other (below.within other model) rule.pos asks.pos) asks.head keeps
 
 -- so the mark keeps what is marked within the models
 pub IsWithinModels-mark : (rules : List GroundRule) (by : ℕ → Bool) (flags : List Bool) (k : ℕ) (rule : GroundRule) (a : ℕ) → k < length rules → rule ≡ get_or rules k rule → a < length flags → IsWithinModels rules by (flag_at flags) → AsksFor by (flag_at flags) rule a → IsWithinModels rules by (flag_at (set flags a true))
@@ -51,8 +53,11 @@ unmarked_count-mark flags a in_range lacks =
     let weight : Bool → ℕ = λ x. cond (not x) 1 0 in
     omega (arith, sum_by-set weight flags a true false in_range, ap weight lacks)
 
+head_in_range : (n : ℕ) (by : ℕ → Bool) (kind : GroundKind) (head : Option ℕ) (a : ℕ) → MayAsk by kind a → head ≡ Some a → HasHead n kind head → a < n
+head_in_range n by Normal head a may is has = subst (λ o. IsSomeAnd o (λ h. h < n)) is has
+head_in_range n by Choice head a may is has = subst (λ o. IsSomeAnd o (λ h. h < n)) is has
+head_in_range n by Constraint head a may is has = absurd may
+
 -- the head of a rule over the base is an atom of it
 pub asked_in_range : (n : ℕ) (by of : ℕ → Bool) (rule : GroundRule) (a : ℕ) → IsRuleOver n rule → AsksFor by of rule a → a < n
-asked_in_range n by of rule a over asks =
-    let head : HasHead n Normal rule.head = subst (λ k. HasHead n k rule.head) asks.kind over.head in
-    subst (λ o. IsSomeAnd o (λ h. h < n)) asks.head head
+asked_in_range n by of rule a over asks = head_in_range n by rule.kind rule.head a asks.kind asks.head over.head

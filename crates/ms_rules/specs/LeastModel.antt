@@ -1,15 +1,22 @@
 -- The least model of a reduct, as a fixed point.
-use Rattle.std.specs.Prelude.{ℕ, ◌≡◌, ◌<◌, Bool, false, not, IsTrue, List, Some, count_by}
+use Rattle.std.specs.Prelude.{ℕ, ◌≡◌, ◌<◌, Bool, false, not, IsTrue, List, Some, count_by, ⊤}
 use Rattle.ms_join.specs.declared.ground_rule.GroundRule.{GroundRule}
-use Rattle.ms_join.specs.declared.ground_rule.GroundKind.TheVariants.{Normal}
+use Rattle.ms_join.specs.declared.ground_rule.GroundKind.{GroundKind}
+use Rattle.ms_join.specs.declared.ground_rule.GroundKind.TheVariants.{Normal, Choice, Constraint}
 use Rattle.ms_join.specs.AnswerSets.{has_all, has_none, IsReductModel}
 use Rattle.ms_rules.specs.declared.least_model.Progress.{Progress}
 use Rattle.ms_rules.specs.declared.least_model.Progress.TheVariants.{Still, Marked, Outside}
 use Rattle.ms_rules.specs.Flags.{flag_at}
 
+-- a normal rule may ask for its head, and a choice for one in the set `by`
+abbrev pub MayAsk : (ℕ → Bool) → GroundKind → ℕ → Type 0
+MayAsk by Normal a = ⊤
+MayAsk by Choice a = IsTrue (by a)
+MayAsk by Constraint a = ⊥
+
 -- In the reduct by the set `by`, the rule asks for the atom, which the set `of` lacks.
 pub record AsksFor (by of : ℕ → Bool) (rule : GroundRule) (a : ℕ) : Type 0 where
-  pub kind : rule.kind ≡ Normal
+  pub kind : MayAsk by rule.kind a
   pub neg : IsTrue (has_none by rule.neg)
   pub pos : IsTrue (has_all of rule.pos)
   pub head : rule.head ≡ Some a

@@ -14,7 +14,7 @@ fn allows(rule: &GroundRule, in_set: &[bool]) -> bool
     ensures { IsTrue result ↔ Allows (flag_at in_set.now) rule.now.kind rule.now }
 {
     match rule.kind {
-        GroundKind::Normal => true,
+        GroundKind::Normal | GroundKind::Choice => true,
         GroundKind::Constraint => {
             !(has_all(in_set, rule.pos.as_slice()) && has_none(in_set, rule.neg.as_slice()))
         }

@@ -1,7 +1,7 @@
 // The least model of the reduct of the rules by a set, as a fixed point.
-ghost use Rattle.std.specs.Prelude.{◌≡◌, All, length, MatchOption, MatchBool};
+ghost use Rattle.std.specs.Prelude.{◌≡◌, All, length, MatchOption, MatchBool, IsTrue, ◌↔◌};
 ghost use Rattle.ms_join.specs.AnswerSets.{IsReductModel, IsRuleOver, Keeps};
-ghost use Rattle.ms_rules.specs.LeastModel.{AsksFor, IsLeastModel, IsWithinModels, Progresses};
+ghost use Rattle.ms_rules.specs.LeastModel.{AsksFor, IsLeastModel, IsWithinModels, MayAsk, Progresses};
 ghost use Rattle.ms_rules.specs.Flags.{flag_at};
 
 use crate::flags::{has_all, has_none, is_marked};
@@ -19,6 +19,17 @@ pub(crate) enum Progress {
     Outside,
 }
 
+/// Whether a rule of this kind may ask for its head. A choice may where the head is in the set.
+fn may_ask(kind: GroundKind, in_set: &[bool], head: AtomId) -> bool
+    ensures { IsTrue result ↔ MayAsk (flag_at in_set.now) kind head }
+{
+    match kind {
+        GroundKind::Normal => true,
+        GroundKind::Choice => is_marked(in_set, head),
+        GroundKind::Constraint => false,
+    }
+}
+
 /// The head that the rule asks for and that isn't marked yet.
 fn missing_head(rule: &GroundRule, in_set: &[bool], derived: &[bool]) -> Option<AtomId>
     ensures { MatchOption result
@@ -26,7 +37,7 @@ fn missing_head(rule: &GroundRule, in_set: &[bool], derived: &[bool]) -> Option<
         (AsksFor (flag_at in_set.now) (flag_at derived.now) rule.now) }
 {
     let head = rule.head?;
-    if rule.kind == GroundKind::Normal
+    if may_ask(rule.kind, in_set, head)
         && !is_marked(derived, head)
         && has_none(in_set, rule.neg.as_slice())
         && has_all(derived, rule.pos.as_slice())

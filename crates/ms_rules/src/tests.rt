@@ -15,9 +15,10 @@ enum Atom {
     B,
 }
 
-/// A rule with at most one positive and one negated atom.
+/// A rule with at most one positive and one negated atom, which is a constraint where it has no head.
 #[derive(Clone, Copy)]
 struct TinyRule {
+    is_choice: bool,
     head: Option<Atom>,
     pos: Option<Atom>,
     neg: Option<Atom>,
@@ -48,6 +49,7 @@ fn rule_of(alloc: Global, row: TinyRule) -> Result<GroundRule, OutOfMemory>
     let pos = numbers(alloc, row.pos)?;
     let neg = numbers(alloc, row.neg)?;
     let (kind, head) = match row.head {
+        Some(atom) if row.is_choice => (GroundKind::Choice, Some(number(atom))),
         Some(atom) => (GroundKind::Normal, Some(number(atom))),
         None => (GroundKind::Constraint, None),
     };
@@ -96,7 +98,21 @@ fn answers(
 }
 
 const fn tiny(head: Option<Atom>, pos: Option<Atom>, neg: Option<Atom>) -> TinyRule {
-    TinyRule { head, pos, neg }
+    TinyRule {
+        is_choice: false,
+        head,
+        pos,
+        neg,
+    }
+}
+
+const fn choice(head: Option<Atom>, pos: Option<Atom>, neg: Option<Atom>) -> TinyRule {
+    TinyRule {
+        is_choice: true,
+        head,
+        pos,
+        neg,
+    }
 }
 
 #[test]
@@ -135,6 +151,21 @@ fn answers_of_two_atoms(rt: HostRuntime) -> Result<(), Fail> {
             "a :- not a. a :- b.",
             [tiny(a, None, a), tiny(a, b, None)],
             [false, false, false, false],
+        ),
+        (
+            "{a}. b :- a.",
+            [choice(a, None, None), tiny(b, a, None)],
+            [true, false, false, true],
+        ),
+        (
+            "{a} :- not b. {b} :- a.",
+            [choice(a, None, b), choice(b, a, None)],
+            [true, true, false, false],
+        ),
+        (
+            "{a} :- b. b :- a.",
+            [choice(a, b, None), tiny(b, a, None)],
+            [true, false, false, false],
         ),
     ];
     for (text, rows, wanted) in &table {

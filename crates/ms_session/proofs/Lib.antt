@@ -1,2 +1,3 @@
-mod ShownLists
+mod Filtered
 mod Fronts
+mod ShownLists

@@ -60,6 +60,7 @@ fn print_refusal(refusal: Refusal, into: &mut Vec<u8>) -> Result<(), OutOfMemory
         Refusal::Command => put(b"refused command\n", into),
         Refusal::Unfinished => put(b"refused unfinished\n", into),
         Refusal::Syntax { line } => print_counted("refused syntax ", line, into),
+        Refusal::Const { line } => print_counted("refused const ", line, into),
         Refusal::Again => put(b"refused again\n", into),
         Refusal::Later => put(b"refused later\n", into),
         Refusal::Small => put(b"refused small\n", into),
@@ -170,13 +171,14 @@ mod tests {
         replies.push(Reply::Refused(Refusal::Command))?;
         replies.push(Reply::Refused(Refusal::Unfinished))?;
         replies.push(Reply::Refused(Refusal::Syntax { line: 70 }))?;
+        replies.push(Reply::Refused(Refusal::Const { line: 7 }))?;
         replies.push(Reply::Refused(Refusal::Again))?;
         replies.push(Reply::Refused(Refusal::Later))?;
         replies.push(Reply::Refused(Refusal::Small))?;
         Ok(replies)
     }
 
-    const TEXTS: [&str; 13] = [
+    const TEXTS: [&str; 14] = [
         "added 0\n",
         "added 18446744073709551615\n",
         "grounded atoms=3 rules=12\n",
@@ -187,6 +189,7 @@ mod tests {
         "refused command\n",
         "refused unfinished\n",
         "refused syntax 70\n",
+        "refused const 7\n",
         "refused again\n",
         "refused later\n",
         "refused small\n",

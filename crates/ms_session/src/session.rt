@@ -7,10 +7,11 @@ use crate::text::{TextFault, read};
 use ms_base::memory::OutOfMemory;
 use ms_base::seq::Seq;
 use ms_command::command::Command;
-use ms_grammar::statement::{Names, Statement};
+use ms_grammar::statement::Names;
 use ms_ground::ground;
 use ms_join::ground_rule::Rules;
 use ms_machine::reply::{Refusal, Reply};
+use ms_parts::{Parts, PartsFault};
 use ms_plain::plain_rules;
 use ms_subsets::answer_sets;
 use std::alloc::Global;
@@ -25,7 +26,7 @@ pub const MOST_TRIED: usize = 20;
 /// A solver that lives on while its program grows. Contracts see it as the state of the machine.
 #[derive(Debug, Drop)]
 pub struct Session {
-    texts: Vec<Statement>,
+    parts: Parts,
     is_grounded: bool,
     names: Names,
     rules: Rules,
@@ -42,7 +43,7 @@ impl Model for Session {
 
     ghost coded = { Prim.hlevel (codes, t.the_row.coded, v.the_row.coded) };
 
-    ghost view = { λ s. record { texts = s.texts.items; is_grounded = s.is_grounded; names = s.names; rules = s.rules.rules } };
+    ghost view = { λ s. record { texts = s.parts; is_grounded = s.is_grounded; names = s.names; rules = s.rules.rules } };
 
     ghost invariant = { λ s. IsSound s.names s.rules.rules };
 }
@@ -53,7 +54,7 @@ impl Session {
         ensures { result ≡ start }
     {
         Session {
-            texts: Vec::new(alloc),
+            parts: Parts::new(alloc),
             is_grounded: false,
             names: Seq::new(alloc),
             rules: Rules {
@@ -85,9 +86,11 @@ impl Session {
             }
             Err(TextFault::OutOfMemory) => return Err(OutOfMemory),
         };
-        let count = statements.len() as u64;
-        self.texts.append(&mut statements.into_vec())?;
-        Ok(Reply::Added { count })
+        match self.parts.add(statements) {
+            Ok(count) => Ok(Reply::Added { count }),
+            Err(PartsFault::ConstTwice { line }) => Ok(Reply::Refused(Refusal::Const { line })),
+            Err(PartsFault::OutOfMemory) => Err(OutOfMemory),
+        }
     }
 
     fn ground(&mut self, alloc: Global) -> Result<Reply, OutOfMemory>
@@ -97,7 +100,8 @@ impl Session {
         if self.is_grounded {
             return Ok(Reply::Refused(Refusal::Again));
         }
-        let Some(plain) = plain_rules(alloc, self.texts.as_slice())? else {
+        let core = self.parts.core(alloc, b"base", &[])?;
+        let Some(plain) = plain_rules(alloc, core.as_slice())? else {
             return Ok(Reply::Refused(Refusal::Later));
         };
         let module = ground(alloc, plain.as_slice())?;
@@ -119,7 +123,12 @@ impl Session {
             return Ok(Reply::Refused(Refusal::Small));
         }
         let found = answer_sets(alloc, atoms as u32, &self.rules, ALL_COUNT)?;
-        let shown = listing(alloc, self.names.as_slice(), found.sets.as_slice())?;
+        let shown = listing(
+            alloc,
+            &self.parts,
+            self.names.as_slice(),
+            found.sets.as_slice(),
+        )?;
         Ok(Reply::Solved {
             ending: found.ending,
             count: found.sets.len() as u64,

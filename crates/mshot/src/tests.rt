@@ -49,7 +49,7 @@ fn scripts_have_their_replies(rt: HostRuntime) -> Result<(), Fail> {
     let refused = Status::SomeRefused;
     let facts =
         b"@add\na1. a2. a3. a4. a5. a6. a7. a8. a9. a10. a11. a12. a13. a14. a15. a16. a17. a18. a19. a20. a21.\n@end\n@ground base\n@ground base\n@solve all\n";
-    let rows: [(&str, &[u8], Status, &str); 27] = [
+    let rows: [(&str, &[u8], Status, &str); 35] = [
         ("empty input", b"", done, ""),
         ("blanks and a comment", b" \t\n\r\n% @add\n", done, ""),
         ("two answers", TWO_RULES.as_bytes(), done, TWO_REPLIES),
@@ -114,10 +114,10 @@ fn scripts_have_their_replies(rt: HostRuntime) -> Result<(), Fail> {
             "added 2\nadded 1\ngrounded atoms=3 rules=3\nanswer: a b d\ncomplete 1\n",
         ),
         (
-            "a constraint without a body waits",
-            b"@add\n:- .\n@end\n@ground base\n",
-            refused,
-            "added 1\nrefused later\n",
+            "a constraint without a body",
+            b"@add\n:- . a.\n@end\n@ground base\n@solve all\n",
+            done,
+            "added 2\ngrounded atoms=1 rules=2\ncomplete 0\n",
         ),
         (
             "a comparison waits",
@@ -126,16 +126,64 @@ fn scripts_have_their_replies(rt: HostRuntime) -> Result<(), Fail> {
             "added 1\nrefused later\n",
         ),
         (
-            "a choice waits",
-            b"@add\na. {b}.\n@end\n@ground base\n@ground base\n",
+            "a bound of a choice waits, and so does an external",
+            b"@add\na. {b} 1.\n@end\n@ground base\n@ground base\n@add\n#external c.\n@end\n@ground base\n",
             refused,
-            "added 2\nrefused later\nrefused later\n",
+            "added 2\nrefused later\nrefused later\nadded 1\nrefused later\n",
         ),
         (
-            "a directive waits",
-            b"@add\na.\n@end\n@add\n#show.\n@end\n@ground base\n",
+            "two choices",
+            b"@add\n{a;b}.\n@end\n@ground base\n@solve all\n",
+            done,
+            "added 1\ngrounded atoms=2 rules=2\nanswer:\nanswer: a\nanswer: a b\nanswer: b\ncomplete 4\n",
+        ),
+        (
+            "support in a circle beside a choice",
+            b"@add\na :- b. b :- a. {c}. a :- c.\n@end\n@ground base\n@solve all\n",
+            done,
+            "added 4\ngrounded atoms=3 rules=4\nanswer:\nanswer: a b c\ncomplete 2\n",
+        ),
+        (
+            "more copies than a statement may have",
+            b"@add\np((1;2),(1;2),(1;2),(1;2),(1;2),(1;2),(1;2),(1;2),(1;2),(1;2),(1;2),(1;2),(1;2),(1;2)).\n@end\n",
             refused,
-            "added 1\nadded 1\nrefused later\n",
+            "refused syntax 1\n",
+        ),
+        (
+            "a constant twice",
+            b"@add\na.\nb c.\n@end\n@add\n#const n=1.\n#const n=2.\n@end\n@add\n#const m=1.\n@end\n@add\n\n#const m=1.\n@end\n@grond base\nhello\n",
+            refused,
+            "refused syntax 2\nrefused const 2\nadded 1\nrefused const 2\nrefused command\nrefused command\n",
+        ),
+        (
+            "one atom is shown",
+            b"@add\na :- not b. b :- not a. #show a/0.\n@end\n@ground base\n@solve all\n",
+            done,
+            "added 3\ngrounded atoms=2 rules=2\nanswer:\nanswer: a\ncomplete 2\n",
+        ),
+        (
+            "no atom is shown",
+            b"@add\na :- not b. b :- not a. #show.\n@end\n@ground base\n@solve all\n",
+            done,
+            "added 3\ngrounded atoms=2 rules=2\nanswer:\nanswer:\ncomplete 2\n",
+        ),
+        (
+            "both kinds of show",
+            b"@add\na :- not b. b :- not a. #show. #show b/0. #show b/1.\n@end\n@ground base\n@solve all\n",
+            done,
+            "added 5\ngrounded atoms=2 rules=2\nanswer:\nanswer: b\ncomplete 2\n",
+        ),
+        (
+            "parts beside the base, constants and pools",
+            b"@add\na. #program base. b(c) :- d. #program step(t). p(t). #const d=1.\n@end\n@add\n#program base. e :- not (a;f).\n@end\n@ground base\n",
+            refused,
+            "added 6\nrefused syntax 1\nrefused later\n",
+        ),
+        (
+            "the incremental mode leaves the base as it is",
+            b"@add\na.\n@end\n@add\n#include <incmode>. b.\n@end\n@ground base\n@solve all\n",
+            done,
+            "added 1\nadded 2\ngrounded atoms=2 rules=2\nanswer: a b\ncomplete 1\n",
         ),
         (
             "pieces that no statement is",

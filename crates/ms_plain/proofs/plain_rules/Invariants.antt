@@ -3,5 +3,5 @@ use Rattle.std.specs.Option.{option_map}
 use Rattle.ms_machine.specs.Plain.{plain_rules}
 use Rattle.ms_plain.proofs.plain_rules.Given as goal
 
-abbrev pub invariant-loop-statement : goal.invariant-loop-statement
-invariant-loop-statement l = plain_rules l.statements ≡ option_map (λ more. l.rules ++ more) (plain_rules (drop l.statement-index l.statements))
+abbrev pub invariant-loop-rule : goal.invariant-loop-rule
+invariant-loop-rule l = plain_rules l.rules ≡ option_map (λ more. l.plain ++ more) (plain_rules (drop l.rule-index l.rules))
