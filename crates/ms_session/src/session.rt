@@ -24,7 +24,7 @@ pub const ALL_COUNT: u64 = 1_000_000;
 pub const MOST_TRIED: usize = 20;
 
 /// A solver that lives on while its program grows. Contracts see it as the state of the machine.
-#[derive(Debug, Drop)]
+#[derive(Drop)]
 pub struct Session {
     parts: Parts,
     is_grounded: bool,

@@ -1,0 +1,5 @@
+pub mod NamedValues
+pub mod RowLaws
+pub mod MakerLaws
+pub mod CallLaws
+pub mod PartLaws

@@ -1,0 +1,7 @@
+use Rattle.std.proofs.Common.{◌≡◌, take}
+use Rattle.std.specs.List.{flat_map}
+use Rattle.ms_core.specs.Pools.{element_copies}
+use Rattle.ms_parts.proofs.pools_form.elements_copies.Given as goal
+
+abbrev pub invariant-loop-element : goal.invariant-loop-element
+invariant-loop-element l = l.made.items ≡ flat_map element_copies (take l.element-index l.elements)

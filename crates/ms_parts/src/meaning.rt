@@ -1,0 +1,41 @@
+// What names stand for in a call of a part.
+ghost use Rattle.std.specs.Prelude.{◌≡◌};
+ghost use Rattle.std.specs.Option.{option_copied};
+ghost use Rattle.ms_core.specs.Texts.{value_in, paired};
+ghost use Rattle.ms_parts.specs.Meanings.{meant};
+
+use ms_base::seq::Bytes;
+use ms_grammar::value::Value;
+use ms_texts::Texts;
+
+/// The parameters of a part with their values, and the texts with their constants.
+#[derive(Drop)]
+pub(crate) struct Meanings<'a> {
+    pub params: &'a [Bytes],
+    pub args: &'a [Value],
+    pub texts: &'a Texts,
+}
+
+impl<'a> Meanings<'a> {
+    /// The value that a name stands for: parameters come before constants.
+    pub fn of(&self, name: &[u8]) -> Option<&'a Value>
+        ensures { option_copied result ≡ meant self.now name.now }
+    {
+        match self.argument(name) {
+            Some(value) => Some(value),
+            None => self.texts.constant(name),
+        }
+    }
+
+    /// The value of a parameter.
+    fn argument(&self, name: &[u8]) -> Option<&'a Value>
+        ensures { option_copied result ≡ value_in (paired self.now.params.now self.now.args.now) name.now }
+    {
+        for (param, value) in self.params.iter().zip(self.args) {
+            if param.as_slice() == name {
+                return Some(value);
+            }
+        }
+        None
+    }
+}

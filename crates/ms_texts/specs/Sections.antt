@@ -1,0 +1,67 @@
+-- Texts as sections: the statements that stand under one `#program`.
+use Rattle.std.specs.Prelude.{codes, zero, suc, ◌≡◌, ℕ, ◌+◌, ◌==◌, nat_eq, if◌then◌else◌, List, [], ◌∷◌, ◌++◌, map, length, Option, Some, None, slice_get, Vec}
+use Rattle.std.specs.List.{flat_map, filter_map}
+use Rattle.std.specs.Map.{lookup}
+use Rattle.std.specs.Cmp.Lexicographic.{pointwise}
+use Rattle.ms_grammar.specs.declared.term.TextTerm.{TextTerm, Function}
+use Rattle.ms_grammar.specs.declared.statement.Form.{Form}
+use Rattle.ms_core.specs.Texts.{PartName, is_name, said_of, part_after}
+use Rattle.ms_texts.specs.declared.section.Section.{Section}
+
+-- the part of a section
+abbrev pub part_of : Section → PartName
+part_of s = record { name = s.name; params = s.params }
+
+-- the statements of a section, each with its part
+abbrev pub said_in : Section → List (PartName × Form)
+said_in s = map (λ form. (part_of s, form)) s.forms
+
+abbrev pub said_by : List Section → List (PartName × Form)
+said_by sections = flat_map said_in sections
+
+-- The sections of a text that are done, and the one that goes on after another statement: they say what was said,
+-- and what the statement says.
+abbrev pub GoesOn : List Section → Section → Form → List Section → Section → Type 0
+GoesOn done here form longer next =
+    (said_by longer ++ said_in next ≡ (said_by done ++ said_in here) ++ said_of (part_of here) form ∷ [])
+    × (part_of next ≡ part_after (part_of here) form)
+
+-- a section of the same part that says nothing
+abbrev pub silent : Section → Section
+silent s = record s { forms = [] }
+
+-- the places of the sections with a name, where the first one stands at i
+unfoldable pub places_from : List ℕ → ℕ → List Section → List ℕ
+places_from name i [] = []
+places_from name i (s ∷ ss) = if is_name s.name name then i ∷ places_from name (i + 1) ss else places_from name (i + 1) ss
+
+abbrev pub items_or_none : {A : Type 0} → Option (Vec ℕ A) → List ℕ
+items_or_none None = []
+items_or_none (Some v) = v.items
+
+-- the places that an index has for a name
+abbrev pub places_in : {A : Type 0} → List ℕ → List (Vec ℕ A × Vec ℕ A) → List ℕ
+places_in name entries = items_or_none (lookup (λ key. pointwise nat_eq name key.items) entries)
+
+-- an index of sections by their names
+abbrev pub Indexes : {A : Type 0} → List (Vec ℕ A × Vec ℕ A) → List Section → Type 0
+Indexes entries sections = (name : List ℕ) → places_in name entries ≡ places_from name 0 sections
+
+-- The section, where it has so many parameters.
+abbrev pub counted : ℕ → Option Section → Option Section
+counted count None = None
+counted count (Some s) = if length s.params == count then Some s else None
+
+-- the sections at places that have so many parameters
+abbrev pub sections_at : ℕ → List Section → List ℕ → List Section
+sections_at count sections places = filter_map (λ place. counted count (slice_get sections place)) places
+
+-- the constant `t`
+abbrev pub constant_t : TextTerm
+constant_t = Function (codes "t") ([] ∷ [])
+
+-- the sections, of which those from a place on say nothing
+unfoldable pub silenced : ℕ → List Section → List Section
+silenced n [] = []
+silenced zero (s ∷ ss) = silent s ∷ silenced zero ss
+silenced (suc n) (s ∷ ss) = s ∷ silenced n ss
