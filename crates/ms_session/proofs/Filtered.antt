@@ -27,4 +27,3 @@ contains_filtered p (y ∷ xs) x (suc k, lt, is) passes =
       | inl yes' ↦ subst (λ zs. Contains zs x) (sym (cond-true (p y) (y ∷ filter p xs) (filter p xs) yes')) (contains_later y (filter p xs) x rest)
       | inr no' ↦ subst (λ zs. Contains zs x) (sym (cond-false (p y) (y ∷ filter p xs) (filter p xs) no')) rest
     ]
-

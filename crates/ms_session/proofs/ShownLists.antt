@@ -51,7 +51,7 @@ flag_is shows names name a at =
 shown_set : (n : ℕ) (p : ℕ → Bool) (set : List ℕ) → IsAtomSet n set → IsAtomSet n (filter p set)
 shown_set n p set over = record {
   rising = IsStrictlyIncreasing-filter p set over.rising;
-  within = All-filter p (λ a. a < n) set over.within
+  within = All-filter p (λ a. a < n) set over.within;
 }
 
 to_shown : (shows : AtomName → Bool) (names : List AtomName) (set : List ℕ) → IsAtomSet (length names) set → (name : AtomName) → Contains (shown_of names (map shows names) set) name → IsTrue (shows name) × ((a : ℕ) × Contains set a × (slice_get names a ≡ Some name))

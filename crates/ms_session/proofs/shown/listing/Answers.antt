@@ -19,5 +19,5 @@ returns c =
       lists = c.in_ok-lists.lists.items;
       shown = subst (λ lists. AllZip (IsShownList shows names) sets lists) (sym is) (are_shown shows names sets c.requires.ordered c.requires.over_base);
       same = subst (λ listing. IsPermutation c.in_ok-lists.lists.items listing) (sym c.from_vec.ensures) c.in_ok-sort.ensures.permutation;
-      ordered = subst (λ listing. IsSorted (slice_cmp (slice_cmp nat_cmp)) listing) (sym c.from_vec.ensures) c.in_ok-sort.ensures.sorted
+      ordered = subst (λ listing. IsSorted (slice_cmp (slice_cmp nat_cmp)) listing) (sym c.from_vec.ensures) c.in_ok-sort.ensures.sorted;
     }
