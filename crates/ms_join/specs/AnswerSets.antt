@@ -1,12 +1,13 @@
 -- The answer sets of ground rules. A set of atoms is a test of their numbers.
 -- Source: Gelfond and Lifschitz, "The stable model semantics for logic programming" (1988); a constraint
--- as in Niemela, "Logic programs with stable model semantics as a constraint programming paradigm" (1999).
+-- as in Niemela, "Logic programs with stable model semantics as a constraint programming paradigm" (1999); a
+-- choice as in Simons, Niemela and Soininen, "Extending and implementing the stable model semantics" (2002).
 use Rattle.std.specs.Prelude.{ℕ, ◌≡◌, ◌<◌, ◌==◌, Bool, false, not, ◌&&◌, IsTrue, List, Option, All, None, IfSome, IsSomeAnd, ⊤}
 use Rattle.std.specs.List.{list_all, list_any}
 use Rattle.std.specs.List.Sorted.{IsStrictlyIncreasing}
 use Rattle.ms_join.specs.declared.ground_rule.GroundRule.{GroundRule}
 use Rattle.ms_join.specs.declared.ground_rule.GroundKind.{GroundKind}
-use Rattle.ms_join.specs.declared.ground_rule.GroundKind.TheVariants.{Normal, Constraint}
+use Rattle.ms_join.specs.declared.ground_rule.GroundKind.TheVariants.{Normal, Choice, Constraint}
 
 -- each of the atoms is in the set, and none of them is
 abbrev pub has_all : (ℕ → Bool) → List ℕ → Bool
@@ -16,9 +17,11 @@ abbrev pub has_none : (ℕ → Bool) → List ℕ → Bool
 has_none set atoms = list_all (λ a. not (set a)) atoms
 
 -- The set `of` keeps what the rule asks in the reduct by the set `by`: a normal rule none of whose negated
--- atoms is in `by` asks for its head where each of its positive atoms is there.
+-- atoms is in `by` asks for its head where each of its positive atoms is there. A choice whose head is in `by`
+-- asks the same.
 abbrev pub Keeps : (ℕ → Bool) → (ℕ → Bool) → GroundKind → GroundRule → Type 0
 Keeps by of Normal rule = IsTrue (has_none by rule.neg) → IsTrue (has_all of rule.pos) → IfSome rule.head (λ h. IsTrue (of h))
+Keeps by of Choice rule = IfSome rule.head (λ h. IsTrue (by h) → IsTrue (has_none by rule.neg) → IsTrue (has_all of rule.pos) → IsTrue (of h))
 Keeps by of Constraint rule = ⊤
 
 -- The set `of` is a model of the reduct by the set `by`.
@@ -28,6 +31,7 @@ IsReductModel rules by of = All (λ rule. Keeps by of rule.kind rule) rules
 -- A constraint allows a set in which its body doesn't hold.
 abbrev pub Allows : (ℕ → Bool) → GroundKind → GroundRule → Type 0
 Allows set Normal rule = ⊤
+Allows set Choice rule = ⊤
 Allows set Constraint rule = (has_all set rule.pos && has_none set rule.neg) ≡ false
 
 -- an atom, and whether it is assumed true
@@ -50,9 +54,10 @@ pub record IsAtomSet (n : ℕ) (atoms : List ℕ) : Type 0 where
   pub rising : IsStrictlyIncreasing atoms
   pub within : All (λ a. a < n) atoms
 
--- a normal rule has a head, and a constraint has none
+-- a normal rule and a choice have a head, and a constraint has none
 abbrev pub HasHead : ℕ → GroundKind → Option ℕ → Type 0
 HasHead n Normal head = IsSomeAnd head (λ h. h < n)
+HasHead n Choice head = IsSomeAnd head (λ h. h < n)
 HasHead n Constraint head = head ≡ None
 
 -- A rule over the atoms below n.

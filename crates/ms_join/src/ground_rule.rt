@@ -9,6 +9,8 @@ pub type AtomIds = Seq<AtomId>;
 pub enum GroundKind {
     /// Its head holds too.
     Normal,
+    /// Its head may hold too.
+    Choice,
     /// Nothing may hold that makes its body true. It has no head.
     Constraint,
 }

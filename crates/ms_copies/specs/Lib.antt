@@ -1,0 +1,6 @@
+pub mod Evaluating
+pub mod Choosing
+pub mod Grounding
+pub mod Simplifying
+pub mod Limits
+pub mod WellFormed
