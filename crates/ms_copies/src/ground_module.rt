@@ -1,6 +1,6 @@
-use ms_base::atom_id::AtomId as TermId;
 use ms_base::seq::Seq;
 use ms_join::ground_rule::{AtomIds, GroundRules};
+use ms_term::TermId;
 
 /// Names of terms.
 pub type TermIds = Seq<TermId>;
