@@ -1,5 +1,6 @@
 -- The values of terms side by side, the first of which have been named.
-use Rattle.std.proofs.Common.{◌≡◌, ℕ, ◌+◌, ◌<◌, ◌≤◌, List, [], ◌∷◌, ◌++◌, map, length, drop, get_or, Option, Some, None, refl, sym, ap, ◌∙◌, subst, arith, add-one, drop-cons}
+use Rattle.std.proofs.Common.{◌≡◌, ℕ, ◌+◌, ◌<◌, ◌≤◌, List, [], ◌∷◌, ◌++◌, map, length, drop, get_or, Option, Some, None, refl, sym, ap, ◌∙◌, arith, suc, drop-cons}
+use Rattle.std.proofs.Math.ListN.{drop_of_length-le}
 use Rattle.std.specs.Prelude.{option_map}
 use Rattle.ms_tree.specs.Tree.{Tree, Trees, no_tree, tree}
 use Rattle.ms_term.specs.Terms.{term_at, terms_at, AllBelow}
@@ -18,7 +19,9 @@ both_some t None = refl
 both_some t (Some us) = refl
 
 cut : (ps : List Pattern) (i : ℕ) (p : Pattern) → i < length ps → p ≡ get_or ps i p → drop i ps ≡ p ∷ drop (i + 1) ps
-cut ps i p h e = drop-cons ps i p h ∙ ap (λ q. q ∷ drop (i + 1) ps) (sym e)
+cut ps i p h e =
+    let one_more : suc i ≡ i + 1 = omega arith in
+    drop-cons ps i p h ∙ ap (λ k. get_or ps i p ∷ drop k ps) one_more ∙ ap (λ q. q ∷ drop (i + 1) ps) (sym e)
 
 next_value : (chosen : Chosen) (ps : List Pattern) (i : ℕ) (p : Pattern) → i < length ps → p ≡ get_or ps i p
     → values_from chosen ps i ≡ both (λ u us. Some (tree u us)) (value chosen p) (values_from chosen ps (i + 1))
@@ -43,18 +46,10 @@ none_here ts names chosen ps i p all h e is same =
     ∙ ap (after ts names) (next_value chosen ps i p h e ∙ ap (λ v. both (λ u us. Some (tree u us)) v (values_from chosen ps (i + 1))) is)
     ∙ after_none ts names
 
-drop_all : (ps : List Pattern) (i : ℕ) → length ps ≤ i → drop i ps ≡ []
-drop_all [] i h = drop_nil i
-  where
-    drop_nil : (i : ℕ) → drop i [] ≡ []
-    drop_nil i = refl
-drop_all (p ∷ ps) 0 h = absurd (omega arith)
-drop_all (p ∷ ps) (suc i) h = drop_all ps i (omega arith)
-
 pub all_named : (ts : List Tree) (names : List ℕ) (chosen : Chosen) (ps : List Pattern) (i : ℕ) (all : Option Trees)
     → length ps ≤ i → after ts names (values_from chosen ps i) ≡ all → all ≡ Some (terms_at ts names)
 unfolding all_values
 all_named ts names chosen ps i all h same =
     sym same
-    ∙ ap (λ qs. after ts names (all_values (map (value chosen) qs))) (drop_all ps i h)
+    ∙ ap (λ qs. after ts names (all_values (map (value chosen) qs))) (drop_of_length-le ps h)
     ∙ after_all ts names

@@ -1,5 +1,5 @@
 -- Tables that keep their names.
-use Rattle.std.proofs.Common.{◌≡◌, ℕ, ◌<◌, ◌≤◌, List, [], ◌∷◌, ◌++◌, length, Option, Some, None, refl, sym, ap, ◌∙◌, arith}
+use Rattle.std.proofs.Common.{◌≡◌, ℕ, ◌<◌, ◌≤◌, List, [], ◌∷◌, ◌++◌, length, Option, Some, None, refl, ap, ◌∙◌, subst, arith}
 use Rattle.std.specs.Prelude.{option_map}
 use Rattle.ms_tree.specs.Tree.{Tree, Trees, no_tree, tree}
 use Rattle.ms_term.specs.Terms.{term_at, terms_at, AllBelow, Names}
@@ -47,3 +47,14 @@ after_kept old new (i ∷ is) rest k h =
 pub after_push : (ts : List Tree) (is : List ℕ) (i : ℕ) (rest : Option Trees) → after ts (is ++ i ∷ []) rest ≡ after ts is (option_map (tree (term_at ts i)) rest)
 after_push ts [] i rest = refl
 after_push ts (j ∷ is) i rest = ap (option_map (tree (term_at ts j))) (after_push ts is i rest)
+
+pub gives_none : (old new : List Tree) (v : Option Tree) (o : Option ℕ) → Gives old new v o → o ≡ None → v ≡ None
+gives_none old new v None g e = g.named
+gives_none old new v (Some i) g e = cc
+
+pub gives_some : (old new : List Tree) (v : Option Tree) (o : Option ℕ) (i : ℕ) → Gives old new v o → o ≡ Some i → (i < length new) × (v ≡ Some (term_at new i))
+gives_some old new v None i g e = cc
+gives_some old new v (Some j) i g e =
+    let same : j ≡ i = cc in
+    let At : ℕ → Type 0 = λ k. (k < length new) × (v ≡ Some (term_at new k)) in
+    subst At same g.named

@@ -47,10 +47,10 @@ pub fn evaluate_all(
 {
     let mut names = Vec::with_capacity(alloc, patterns.len())?;
     for pattern in patterns {
-        let Some(name) = evaluate(alloc, terms, pattern, chosen)? else {
-            return Ok(None);
-        };
-        names.push(name)?;
+        match evaluate(alloc, terms, pattern, chosen)? {
+            Some(name) => names.push(name)?,
+            None => return Ok(None),
+        }
     }
     Ok(Some(names))
 }

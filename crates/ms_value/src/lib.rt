@@ -4,8 +4,11 @@
 mod comparing;
 mod evaluating;
 mod integers;
+mod place;
+mod walk;
 
 pub use comparing::holds;
 pub use evaluating::{evaluate, evaluate_all};
 pub use integers::{ends, integer};
 pub use ms_term::{OutOfMemory, TermId, Terms};
+pub use walk::Walk;
