@@ -74,6 +74,17 @@ IsTurn ranges old new Moved = HasMoved ranges old new
 IsTurn ranges old new Found = HasFound ranges old new
 IsTurn ranges old new Ended = HasEnded ranges old new
 
+-- No more ranges are chosen for than before, and each still has an upper end.
+pub record IsNoLonger (old new : Place) : Type 0 where
+  pub ends : length old.chosen.items ≡ length old.highs.items → length new.chosen.items ≡ length new.highs.items
+  pub within : length new.chosen.items ≤ length old.chosen.items
+
+-- The integer is chosen for one more range, which has this upper end.
+pub record Chooses (old new : Place) (n high : ℤ) : Type 0 where
+  pub chosen : new.chosen.items ≡ old.chosen.items ++ n ∷ []
+  pub highs : new.highs.items ≡ old.highs.items ++ high ∷ []
+  pub fresh : new.is_fresh ≡ old.is_fresh
+
 -- The lower end is chosen for one more range, where it has an integer, and else nothing is left here.
 pub record EntersAt (range : Range) (old new : Place) (low high : ℤ) : Type 0 where
   pub not_greater : low ≤ℤ high

@@ -1,6 +1,6 @@
 // A place in a walk over the choices of integers for ranges, and the turns of a walk.
-ghost use Rattle.std.specs.Prelude.{IfOk};
-ghost use Rattle.ms_value.specs.Walking.{IsPlace, IsTurn, Enters, Leaves};
+ghost use Rattle.std.specs.Prelude.{IfOk, OnErr};
+ghost use Rattle.ms_value.specs.Walking.{IsPlace, IsTurn, IsNoLonger, Chooses, Enters, Leaves};
 
 use crate::integers::ends;
 use ms_core::rule::Range;
@@ -27,9 +27,10 @@ pub(crate) enum Turn {
 }
 
 /// One turn of a walk.
-pub(crate) fn turn(ranges: &[Range], place: &mut Place) -> Result<Turn, OutOfMemory>
+pub(crate) fn take_turn(ranges: &[Range], place: &mut Place) -> Result<Turn, OutOfMemory>
     requires { IsPlace ranges.now place.old }
-    ensures { IfOk result (IsTurn ranges.now place.old place.new) }
+    ensures ok { IfOk result (IsTurn ranges.now place.old place.new) }
+    ensures err { OnErr result (IsPlace ranges.now place.new) }
 {
     if !place.is_fresh {
         return leave(place);
@@ -48,29 +49,42 @@ pub(crate) fn turn(ranges: &[Range], place: &mut Place) -> Result<Turn, OutOfMem
 
 /// Chooses the lower end for one more range. Where the range has no integer, nothing is left here.
 fn enter(range: &Range, place: &mut Place) -> Result<(), OutOfMemory>
-    ensures { IfOk result (λ done. Enters range.now place.old place.new) }
+    ensures ok { IfOk result (λ done. Enters range.now place.old place.new) }
+    ensures err { OnErr result (IsNoLonger place.old place.new) }
 {
     match ends(range, place.chosen.as_slice()) {
-        Some((low, high)) if low <= high => {
-            place.chosen.push(low)?;
-            place.highs.push(high)?;
+        Some((low, high)) if low <= high => choose(place, low, high),
+        _ => {
+            place.is_fresh = false;
+            Ok(())
         }
-        _ => place.is_fresh = false,
     }
-    Ok(())
 }
 
 /// Chooses the next integer for the last range, or gives that range up where there is none.
 fn leave(place: &mut Place) -> Result<Turn, OutOfMemory>
-    ensures { IfOk result (Leaves place.old place.new) }
+    ensures ok { IfOk result (Leaves place.old place.new) }
+    ensures err { OnErr result (IsNoLonger place.old place.new) }
 {
     let (Some(last), Some(high)) = (place.chosen.pop(), place.highs.pop()) else {
         return Ok(Turn::Ended);
     };
     if last < high {
-        place.chosen.push(last + 1)?;
-        place.highs.push(high)?;
+        choose(place, last + 1, high)?;
         place.is_fresh = true;
     }
     Ok(Turn::Moved)
+}
+
+/// Chooses an integer for one more range, which has this upper end.
+fn choose(place: &mut Place, n: i64, high: i64) -> Result<(), OutOfMemory>
+    ensures ok { IfOk result (λ done. Chooses place.old place.new n high) }
+    ensures err { OnErr result (IsNoLonger place.old place.new) }
+{
+    place.highs.push(high)?;
+    if place.chosen.push(n).is_err() {
+        place.highs.pop();
+        return Err(OutOfMemory);
+    }
+    Ok(())
 }

@@ -3,7 +3,7 @@ ghost use Rattle.std.specs.Prelude.{◌≡◌, [], IfOk};
 ghost use Rattle.ms_copies.specs.InOrder.{choices};
 ghost use Rattle.ms_value.specs.Walking.{IsNext};
 
-use crate::place::{Place, Turn, turn};
+use crate::place::{Place, Turn, take_turn};
 use ms_core::rule::Range;
 use ms_term::OutOfMemory;
 use std::alloc::Global;
@@ -54,7 +54,7 @@ impl<'a> Walk<'a> {
         ensures { IfOk result (IsNext self.old self.new) }
     {
         loop {
-            match turn(self.ranges, &mut self.place)? {
+            match take_turn(self.ranges, &mut self.place)? {
                 Turn::Moved => {}
                 Turn::Found => return Ok(true),
                 Turn::Ended => return Ok(false),
