@@ -1,7 +1,7 @@
 -- What a walk over choices has still to go through.
-use Rattle.std.specs.Prelude.{ℕ, ◌≡◌, ◌+◌, ◌<◌, ◌≤◌, ◌⊎◌, ℤ, pos, ◌+ℤ◌, ◌≤ℤ◌, ◌<ℤ◌, Bool, true, false, List, [], ◌∷◌, ◌++◌, map, flat_map, sum_by, length, drop, Some}
+use Rattle.std.specs.Prelude.{ℕ, ◌≡◌, ◌+◌, ◌<◌, ◌≤◌, ◌⊎◌, ℤ, pos, ◌+ℤ◌, ◌≤ℤ◌, ◌<ℤ◌, Bool, true, false, List, [], ◌∷◌, ◌++◌, map, flat_map, sum_by, length, drop, Option, Some, None}
 use Rattle.ms_core.specs.declared.rule.Range.{Range}
-use Rattle.ms_copies.specs.Evaluating.{Chosen, integer, value}
+use Rattle.ms_copies.specs.Evaluating.{Chosen}
 use Rattle.ms_copies.specs.InOrder.{integers, integers_within, choices}
 use Rattle.ms_value.specs.declared.place.Place.{Place}
 use Rattle.ms_value.specs.declared.place.Turn.{Turn}
@@ -85,24 +85,30 @@ pub record Chooses (old new : Place) (n high : ℤ) : Type 0 where
   pub highs : new.highs.items ≡ old.highs.items ++ high ∷ []
   pub fresh : new.is_fresh ≡ old.is_fresh
 
--- The lower end is chosen for one more range, where it has an integer, and else nothing is left here.
-pub record EntersAt (range : Range) (old new : Place) (low high : ℤ) : Type 0 where
-  pub not_greater : low ≤ℤ high
-  pub low_is : integer (value old.chosen.items range.low) ≡ Some low
-  pub high_is : integer (value old.chosen.items range.high) ≡ Some high
-  pub chosen : new.chosen.items ≡ old.chosen.items ++ low ∷ []
-  pub highs : new.highs.items ≡ old.highs.items ++ high ∷ []
-  pub fresh : new.is_fresh ≡ old.is_fresh
+-- The integers are those between two ends, or there are none.
+abbrev pub IsSpan : List ℤ → Option (ℤ × ℤ) → Type 0
+IsSpan ns None = ns ≡ []
+IsSpan ns (Some s) = (s.0 ≤ℤ s.1) × (ns ≡ integers s.0 s.1)
 
-pub record FindsNone (range : Range) (old new : Place) : Type 0 where
-  pub none : integers_within old.chosen.items range ≡ []
+-- The lower end is chosen for one more range, which has these integers.
+pub record EntersAt (ns : List ℤ) (old new : Place) (low high : ℤ) : Type 0 where
+  pub not_greater : low ≤ℤ high
+  pub between : ns ≡ integers low high
+  pub chooses : Chooses old new low high
+
+-- The range has no integer, so nothing is left here.
+pub record FindsNone (ns : List ℤ) (old new : Place) : Type 0 where
+  pub none : ns ≡ []
   pub chosen : new.chosen.items ≡ old.chosen.items
   pub highs : new.highs.items ≡ old.highs.items
   pub spent : new.is_fresh ≡ false
 
+abbrev pub EntersWith : List ℤ → Place → Place → Type 0
+EntersWith ns old new = ((low : ℤ) × (high : ℤ) × EntersAt ns old new low high) ⊎ FindsNone ns old new
+
 -- One more range is chosen for, or nothing is left here.
 abbrev pub Enters : Range → Place → Place → Type 0
-Enters range old new = ((low : ℤ) × (high : ℤ) × EntersAt range old new low high) ⊎ FindsNone range old new
+Enters range old new = EntersWith (integers_within old.chosen.items range) old new
 
 -- The next integer is chosen for the last range.
 pub record StepsOn (old new : Place) (first highs : List ℤ) (last high : ℤ) : Type 0 where
@@ -123,6 +129,8 @@ pub record GivesUp (old new : Place) (last high : ℤ) : Type 0 where
 -- No range is left to be chosen for.
 pub record IsAtEnd (old new : Place) : Type 0 where
   pub was : (old.chosen.items ≡ []) ⊎ (old.highs.items ≡ [])
+  pub chosen : length new.chosen.items ≤ length old.chosen.items
+  pub highs : length new.highs.items ≤ length old.highs.items
   pub spent : new.is_fresh ≡ old.is_fresh
 
 abbrev pub Leaves : Place → Place → Turn → Type 0

@@ -1,6 +1,7 @@
 // A place in a walk over the choices of integers for ranges, and the turns of a walk.
 ghost use Rattle.std.specs.Prelude.{IfOk, OnErr};
-ghost use Rattle.ms_value.specs.Walking.{IsPlace, IsTurn, IsNoLonger, Chooses, Enters, Leaves};
+ghost use Rattle.ms_value.specs.Walking.{IsPlace, IsTurn, IsNoLonger, Chooses, Enters, Leaves, IsSpan};
+ghost use Rattle.ms_copies.specs.InOrder.{integers_within};
 
 use crate::integers::ends;
 use ms_core::rule::Range;
@@ -52,13 +53,21 @@ fn enter(range: &Range, place: &mut Place) -> Result<(), OutOfMemory>
     ensures ok { IfOk result (λ done. Enters range.now place.old place.new) }
     ensures err { OnErr result (IsNoLonger place.old place.new) }
 {
-    match ends(range, place.chosen.as_slice()) {
-        Some((low, high)) if low <= high => choose(place, low, high),
-        _ => {
+    match span(range, place.chosen.as_slice()) {
+        Some((low, high)) => choose(place, low, high),
+        None => {
             place.is_fresh = false;
             Ok(())
         }
     }
+}
+
+/// The ends of a range that has an integer between them, or `None` exactly where there is no such integer.
+fn span(range: &Range, before: &[i64]) -> Option<(i64, i64)>
+    ensures { IsSpan (integers_within before.now range.now) result }
+{
+    let (low, high) = ends(range, before)?;
+    if low <= high { Some((low, high)) } else { None }
 }
 
 /// Chooses the next integer for the last range, or gives that range up where there is none.
