@@ -1,5 +1,5 @@
 -- An operation has a result exactly where it is defined.
-use Rattle.std.proofs.Common.{◌≡◌, ◌≢◌, ℕ, ℤ, pos, negsuc, ◌+ℤ◌, ◌^◌, ◌<◌, Bool, true, false, not, ◌&&◌, nat_lt, Option, Some, None, refl, sym, ap, ◌∙◌, arith}
+use Rattle.std.proofs.Common.{◌≡◌, ◌≢◌, ℤ, pos, negsuc, ◌^◌, Bool, true, false, not, ◌&&◌, Option, Some, None, refl, ap}
 use Rattle.std.specs.Prelude.{SomeIff, FitsSigned, int_div, if◌then◌else◌}
 use Rattle.std.specs.Int.{w64}
 use Rattle.std.specs.Ordering.{int_eq}

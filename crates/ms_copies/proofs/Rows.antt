@@ -1,6 +1,5 @@
 -- The definitions on small examples.
-use Rattle.std.proofs.Common.{◌≡◌, ℤ, pos, negsuc, [], ◌∷◌, Some, None, refl, ap, ◌∙◌}
-use Rattle.std.specs.Prelude.{option_map}
+use Rattle.std.proofs.Common.{◌≡◌, pos, negsuc, Some, None, refl}
 use Rattle.ms_tree.specs.declared.op.Op.TheVariants.{Add, Sub, Div, Rem}
 use Rattle.ms_copies.specs.Evaluating.{operate, absolute}
 

@@ -1,9 +1,9 @@
 -- What is left of a walk, where one more range is chosen for or given up.
-use Rattle.std.proofs.Common.{◌≡◌, ℕ, zero, suc, ◌+◌, ◌<◌, ◌≤◌, ℤ, pos, ◌+ℤ◌, ◌≤ℤ◌, ◌<ℤ◌, Bool, true, false, List, [], ◌∷◌, ◌++◌, map, length, drop, refl, sym, ap, ◌∙◌, arith, append_assoc, append-nil}
+use Rattle.std.proofs.Common.{◌≡◌, ℕ, suc, ◌+◌, ◌<◌, ◌≤◌, ℤ, pos, ◌+ℤ◌, List, [], ◌∷◌, ◌++◌, map, length, drop, refl, sym, ap, ◌∙◌, arith, append_assoc, append-nil}
 use Rattle.ms_core.specs.declared.rule.Range.{Range}
 use Rattle.ms_copies.specs.Evaluating.{Chosen}
-use Rattle.ms_copies.specs.InOrder.{integers, integers_within, choices}
-use Rattle.ms_value.specs.Walking.{choices_with, around, turns, turns_with, turns_around}
+use Rattle.ms_copies.specs.InOrder.{integers}
+use Rattle.ms_value.specs.Walking.{choices_with, around, turns_with, turns_around}
 
 -- the integers are chosen for the first ranges, with as many upper ends
 pub record Fits (ranges : List Range) (ns : Chosen) (highs : List ℤ) : Type 0 where

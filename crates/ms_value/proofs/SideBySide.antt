@@ -2,7 +2,7 @@
 use Rattle.std.proofs.Common.{◌≡◌, ℕ, ◌+◌, ◌<◌, ◌≤◌, List, [], ◌∷◌, ◌++◌, map, length, drop, get_or, Option, Some, None, refl, sym, ap, ◌∙◌, arith, suc, drop-cons}
 use Rattle.std.proofs.Math.ListN.{drop_of_length-le}
 use Rattle.std.specs.Prelude.{option_map}
-use Rattle.ms_tree.specs.Tree.{Tree, Trees, no_tree, tree}
+use Rattle.ms_tree.specs.Tree.{Tree, Trees, tree}
 use Rattle.ms_term.specs.Terms.{term_at, terms_at, AllBelow}
 use Rattle.ms_grammar.specs.Terms.{both}
 use Rattle.ms_core.specs.declared.pattern.Pattern.{Pattern}

@@ -1,5 +1,5 @@
 -- The integers between the ends of a range.
-use Rattle.std.proofs.Common.{◌≡◌, ℤ, ◌<ℤ◌, List, [], Option, Some, None, refl, sym, ap, ◌∙◌}
+use Rattle.std.proofs.Common.{◌≡◌, ℤ, ◌<ℤ◌, [], Option, Some, None, refl, sym, ap, ◌∙◌}
 use Rattle.ms_grammar.specs.Terms.{both}
 use Rattle.ms_copies.specs.InOrder.{integers, integers_between}
 use Rattle.ms_copies.proofs.Integers.{integers_none}

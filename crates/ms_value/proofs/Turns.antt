@@ -1,5 +1,5 @@
 -- Each turn of a walk leaves the same choices and takes one turn.
-use Rattle.std.proofs.Common.{◌≡◌, ℕ, zero, suc, ◌+◌, ◌<◌, ◌≤◌, ◌⊎◌, inl, inr, ℤ, pos, ◌+ℤ◌, ◌≤ℤ◌, ◌<ℤ◌, Bool, true, false, List, [], ◌∷◌, ◌++◌, map, length, drop, get_or, refl, sym, ap, ◌∙◌, subst, arith, length-append, drop-cons}
+use Rattle.std.proofs.Common.{◌≡◌, ℕ, suc, ◌+◌, ◌<◌, ◌≤◌, inl, inr, ℤ, pos, ◌+ℤ◌, ◌≤ℤ◌, ◌<ℤ◌, Bool, true, false, List, [], ◌∷◌, ◌++◌, map, length, drop, get_or, refl, sym, ap, ◌∙◌, subst, arith, length-append, drop-cons}
 use Rattle.std.proofs.Math.ListN.{drop_of_length-le}
 use Rattle.std.proofs.lemmas.Int.{ints}
 use Rattle.std.proofs.lemmas.List.Sums.{sum_by-cons}
@@ -10,7 +10,7 @@ use Rattle.ms_copies.proofs.Integers.{integers_more, integers_none}
 use Rattle.ms_value.specs.declared.place.Place.{Place}
 use Rattle.ms_value.specs.declared.place.Turn.{Turn}
 use Rattle.ms_value.specs.declared.place.Turn.TheVariants.{Moved, Found, Ended}
-use Rattle.ms_value.specs.Walking.{choices_with, around, turns, turns_with, turns_around, below_of, turns_below, left_at, turns_at, IsPlace, HasMoved, HasFound, HasEnded, Chooses, EntersAt, FindsNone, Enters, EntersWith, StepsOn, GivesUp, IsAtEnd, Leaves, IsTurn}
+use Rattle.ms_value.specs.Walking.{choices_with, around, turns, turns_with, turns_around, below_of, turns_below, left_at, turns_at, IsPlace, HasMoved, HasFound, HasEnded, Enters, StepsOn, GivesUp, IsAtEnd, Leaves, IsTurn}
 use Rattle.ms_value.proofs.Around.{Fits, HasRoom, around_push, around_first, turns_push, turns_less}
 
 -- what is left at a place, by its parts
@@ -142,7 +142,7 @@ stepped_on ranges old new first highs last high p spent e =
     let less = turns_left ranges first highs (last +ℤ pos 1) high rest room le refl in
     let now = turns_is ranges new (first ++ (last +ℤ pos 1) ∷ []) (highs ++ high ∷ []) true e.chosen e.still_high e.fresh in
     let was = turns_is ranges old (first ++ last ∷ []) (highs ++ high ∷ []) false e.was e.was_high spent
-        ∙ turns_push ranges [] first highs last high 0 room ∙ ap (turns_around ranges [] first highs) none in
+    ∙ turns_push ranges [] first highs last high 0 room ∙ ap (turns_around ranges [] first highs) none in
     record {
       place = grown ranges first highs (last +ℤ pos 1) high new room e.chosen e.still_high;
       same = left_is ranges new (first ++ (last +ℤ pos 1) ∷ []) (highs ++ high ∷ []) true e.chosen e.still_high e.fresh
@@ -229,3 +229,11 @@ left_turn ranges old new Moved p spent (inl (first, highs, last, high, e)) = ste
 left_turn ranges old new Moved p spent (inr (last, high, e)) = gave_up ranges old new last high p spent e
 left_turn ranges old new Found p spent e = absurd e
 left_turn ranges old new Ended p spent e = at_end ranges old new p spent e
+
+nothing_walked : (ranges : List Range) → around ranges [] [] [] (choices ranges []) ≡ choices ranges []
+unfolding around
+nothing_walked ranges = refl
+
+-- before the first turn
+pub at_start : (ranges : List Range) (p : Place) → p.chosen.items ≡ [] → p.highs.items ≡ [] → p.is_fresh ≡ true → left_at ranges p ≡ choices ranges []
+at_start ranges p a b e = left_is ranges p [] [] true a b e ∙ nothing_walked ranges

@@ -1,4 +1,4 @@
-use Rattle.std.proofs.Common.{◌≡◌, ℕ, ◌+◌, List, [], ◌∷◌, ◌++◌, map, length, sym, subst, ap, ◌∙◌}
+use Rattle.std.proofs.Common.{ℕ, ◌+◌, List, map, length, sym, subst, ap, ◌∙◌}
 use Rattle.ms_copies.specs.Evaluating.{value, all_values}
 use Rattle.ms_term.specs.Terms.{trees, AllBelow}
 use Rattle.ms_value.proofs.Tables.{after, keeps_then, below_longer, below_push, gives_none, gives_some}
@@ -8,9 +8,11 @@ use Rattle.ms_value.proofs.evaluating.+evaluate.Goals as goal
 pub evaluate_all-returns : goal.evaluate_all-returns
 evaluate_all-returns t c = record {
   keeps = c.loop-pattern.invariant.keeps;
-  named = (c.loop-pattern.invariant.below,
+  named = (
+    c.loop-pattern.invariant.below,
     all_named (trees c.loop-pattern.terms) c.loop-pattern.names.items c.args.chosen.now c.args.patterns.now c.loop-pattern.pattern-index
-    (all_values (map (value c.args.chosen.now) c.args.patterns.now)) c.loop-pattern-test.false c.loop-pattern.invariant.same);
+        (all_values (map (value c.args.chosen.now) c.args.patterns.now)) c.loop-pattern-test.false c.loop-pattern.invariant.same,
+  );
 }
 
 pub evaluate_all-returns-in-None : goal.evaluate_all-returns-in-None

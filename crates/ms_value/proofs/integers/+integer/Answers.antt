@@ -1,4 +1,4 @@
-use Rattle.std.proofs.Common.{◌≡◌, ap, sym, ◌∙◌}
+use Rattle.std.proofs.Common.{ap, sym, ◌∙◌}
 use Rattle.ms_copies.specs.Evaluating.{integer, value}
 use Rattle.ms_copies.proofs.Values.{integer_range}
 use Rattle.ms_value.proofs.LookUps.{looked_up}
