@@ -5,6 +5,8 @@ mod comparing;
 mod evaluating;
 mod integers;
 mod place;
+#[cfg(test)]
+mod tests;
 mod walk;
 
 pub use comparing::holds;
