@@ -1,4 +1,4 @@
-use crate::{Terms, Walk, evaluate, holds};
+use crate::{OutOfMemory, Terms, Walk, evaluate, holds};
 use ms_base::seq::Seq;
 use ms_core::pattern::Pattern;
 use ms_core::rule::{Cmp, Range};
@@ -7,20 +7,17 @@ use sqlite_items::{Boxed, Items};
 use std::alloc::Global;
 use std::test::Fail;
 
-fn binary(alloc: Global, op: Op, left: Pattern, right: Pattern) -> Result<Pattern, Fail> {
+/// `p` of an operation.
+fn applied(alloc: Global, op: Op, left: Pattern, right: Pattern) -> Result<Pattern, OutOfMemory> {
     let left = Boxed::new(alloc, left)?;
-    Ok(Pattern::Binary(op, left, Boxed::new(alloc, right)?))
-}
-
-/// `p` of one term.
-fn applied(alloc: Global, argument: Pattern) -> Result<Pattern, Fail> {
+    let right = Boxed::new(alloc, right)?;
     let mut arguments = Items::new(alloc);
-    arguments.push(argument)?;
+    arguments.push(Pattern::Binary(op, left, right))?;
     Ok(Pattern::Function(Seq::copied(alloc, b"p")?, arguments))
 }
 
 /// The text of a term's value, which is empty where it isn't defined.
-fn text_of(alloc: Global, pattern: &Pattern, chosen: &[i64]) -> Result<Vec<u8>, Fail> {
+fn text_of(alloc: Global, pattern: &Pattern, chosen: &[i64]) -> Result<Vec<u8>, OutOfMemory> {
     let mut terms = Terms::new(alloc);
     let mut text = Vec::new(alloc);
     if let Some(value) = evaluate(alloc, &mut terms, pattern, chosen)? {
@@ -29,31 +26,38 @@ fn text_of(alloc: Global, pattern: &Pattern, chosen: &[i64]) -> Result<Vec<u8>, 
     Ok(text)
 }
 
+/// The text of `p` of an operation on two integers.
+fn operation_text(alloc: Global, op: Op, left: i64, right: i64) -> Result<Vec<u8>, OutOfMemory> {
+    let pattern = applied(alloc, op, Pattern::Number(left), Pattern::Number(right))?;
+    text_of(alloc, &pattern, &[])
+}
+
+/// The text of `p` of the difference of two ranges' integers.
+fn difference_text(alloc: Global, chosen: &[i64]) -> Result<Vec<u8>, OutOfMemory> {
+    let pattern = applied(alloc, Op::Sub, Pattern::Range(0), Pattern::Range(1))?;
+    text_of(alloc, &pattern, chosen)
+}
+
 #[test]
 fn division_goes_toward_zero(rt: HostRuntime) -> Result<(), Fail> {
-    let alloc = rt.alloc();
-    let seven = Pattern::Neg(Boxed::new(alloc, Pattern::Number(7))?);
-    let quotient = binary(alloc, Op::Div, seven, Pattern::Number(2))?;
-    let text = text_of(alloc, &applied(alloc, quotient)?, &[])?;
+    let text = operation_text(rt.alloc(), Op::Div, -7, 2)?;
     assert_eq!(rt; text.as_slice(), b"p(-3)".as_slice(), "p(-7/2)");
+    let text = operation_text(rt.alloc(), Op::Rem, -7, 2)?;
+    assert_eq!(rt; text.as_slice(), b"p(-1)".as_slice(), "what is left of -7");
     Ok(())
 }
 
 #[test]
 fn undefined_terms_have_no_value(rt: HostRuntime) -> Result<(), Fail> {
-    let alloc = rt.alloc();
-    let by_zero = binary(alloc, Op::Div, Pattern::Number(7), Pattern::Number(0))?;
-    let text = text_of(alloc, &applied(alloc, by_zero)?, &[])?;
+    let text = operation_text(rt.alloc(), Op::Div, 7, 0)?;
     assert_eq!(rt; text.as_slice(), b"".as_slice(), "p(7/0)");
-    let greatest = Pattern::Number(9223372036854775807);
-    let past = binary(alloc, Op::Add, greatest, Pattern::Number(1))?;
-    let text = text_of(alloc, &applied(alloc, past)?, &[])?;
+    let text = operation_text(rt.alloc(), Op::Add, i64::MAX, 1)?;
     assert_eq!(rt;
         text.as_slice(),
         b"".as_slice(),
         "one more than the greatest integer"
     );
-    let text = text_of(alloc, &applied(alloc, Pattern::Range(1))?, &[4])?;
+    let text = difference_text(rt.alloc(), &[4])?;
     assert_eq!(rt;
         text.as_slice(),
         b"".as_slice(),
@@ -64,15 +68,8 @@ fn undefined_terms_have_no_value(rt: HostRuntime) -> Result<(), Fail> {
 
 #[test]
 fn ranges_stand_for_their_integers(rt: HostRuntime) -> Result<(), Fail> {
-    let alloc = rt.alloc();
-    let difference = binary(alloc, Op::Sub, Pattern::Range(0), Pattern::Range(1))?;
-    let absolute = Pattern::Abs(Boxed::new(alloc, difference)?);
-    let text = text_of(alloc, &applied(alloc, absolute)?, &[1, 2])?;
-    assert_eq!(rt;
-        text.as_slice(),
-        b"p(1)".as_slice(),
-        "the distance of 1 and 2"
-    );
+    let text = difference_text(rt.alloc(), &[1, 2])?;
+    assert_eq!(rt; text.as_slice(), b"p(-1)".as_slice(), "1 without 2");
     Ok(())
 }
 
@@ -93,7 +90,7 @@ fn comparisons_are_by_the_order_of_terms(rt: HostRuntime) -> Result<(), Fail> {
 }
 
 /// The integers of all choices, one after the other.
-fn all_chosen(alloc: Global, ranges: &[Range]) -> Result<Vec<i64>, Fail> {
+fn all_chosen(alloc: Global, ranges: &[Range]) -> Result<Vec<i64>, OutOfMemory> {
     let mut all = Vec::new(alloc);
     let mut walk = Walk::new(alloc, ranges);
     while walk.next()? {
@@ -102,10 +99,9 @@ fn all_chosen(alloc: Global, ranges: &[Range]) -> Result<Vec<i64>, Fail> {
     Ok(all)
 }
 
-#[test]
-fn choices_come_in_rising_order(rt: HostRuntime) -> Result<(), Fail> {
-    let alloc = rt.alloc();
-    let mut ranges = Vec::new(alloc);
+/// From 1 to 3, and from there to 2.
+fn two_ranges(alloc: Global) -> Result<Vec<Range>, OutOfMemory> {
+    let mut ranges = Vec::with_capacity(alloc, 2)?;
     ranges.push(Range {
         low: Pattern::Number(1),
         high: Pattern::Number(3),
@@ -114,11 +110,17 @@ fn choices_come_in_rising_order(rt: HostRuntime) -> Result<(), Fail> {
         low: Pattern::Range(0),
         high: Pattern::Number(2),
     })?;
-    let all = all_chosen(alloc, ranges.as_slice())?;
+    Ok(ranges)
+}
+
+#[test]
+fn choices_come_in_rising_order(rt: HostRuntime) -> Result<(), Fail> {
+    let ranges = two_ranges(rt.alloc())?;
+    let all = all_chosen(rt.alloc(), ranges.as_slice())?;
     assert_eq!(rt;
         all.as_slice(),
         [1, 1, 1, 2, 2, 2].as_slice(),
-        "1..3 and from there to 2"
+        "three choices"
     );
     Ok(())
 }
