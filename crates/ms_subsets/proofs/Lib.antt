@@ -1,4 +1,0 @@
-mod Carrying
-mod Listed
-mod Places
-mod Rising
