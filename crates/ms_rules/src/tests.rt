@@ -1,8 +1,9 @@
 ghost use Rattle.std.specs.Prelude.{All, IfOk, ◌<◌};
-ghost use Rattle.ms_join.specs.AnswerSets.{IsAtomSet, IsRuleOver};
+ghost use Rattle.ms_join.specs.AnswerSets.{AreRulesOver, IsAtomSet, IsRuleOver};
 
 use crate::{
-    AtomId, AtomIds, AtomSet, GroundKind, GroundRule, OutOfMemory, Rules, Scratch, is_answer,
+    AtomId, AtomIds, AtomSet, GroundKind, GroundRule, Input, Inputs, OutOfMemory, Rules, Scratch,
+    Truth, is_answer,
 };
 use ms_base::seq::Seq;
 use std::alloc::Global;
@@ -61,14 +62,34 @@ fn rule_of(alloc: Global, row: TinyRule) -> Result<GroundRule, OutOfMemory>
     })
 }
 
-fn join_of(alloc: Global, rows: &[TinyRule]) -> Result<Rules, OutOfMemory>
-    ensures { IfOk result (λ join. All (IsRuleOver 2) join.rules) }
+/// The second atom as the only input, with this value, or no input.
+fn inputs_of(alloc: Global, given: Option<Truth>) -> Result<Inputs, OutOfMemory>
+    ensures { IfOk result (All (λ i. i.atom < 2)) }
+{
+    let mut inputs = Seq::new(alloc);
+    if let Some(truth) = given {
+        let value = match truth {
+            Truth::True => Some(true),
+            Truth::False => Some(false),
+            Truth::Free => None,
+        };
+        inputs.push(Input {
+            atom: AtomId(1),
+            value,
+        })?;
+    }
+    Ok(inputs)
+}
+
+fn join_of(alloc: Global, rows: &[TinyRule], given: Option<Truth>) -> Result<Rules, OutOfMemory>
+    ensures { IfOk result (AreRulesOver 2) }
 {
     let mut rules = Seq::new(alloc);
     for row in rows {
         rules.push(rule_of(alloc, *row)?)?;
     }
-    Ok(Rules { rules })
+    let inputs = inputs_of(alloc, given)?;
+    Ok(Rules { rules, inputs })
 }
 
 fn set_of(alloc: Global, has_a: bool, has_b: bool) -> Result<AtomSet, OutOfMemory>
@@ -88,10 +109,11 @@ fn set_of(alloc: Global, has_a: bool, has_b: bool) -> Result<AtomSet, OutOfMemor
 fn answers(
     alloc: Global,
     rows: &[TinyRule],
+    given: Option<Truth>,
     has_a: bool,
     has_b: bool,
 ) -> Result<bool, OutOfMemory> {
-    let join = join_of(alloc, rows)?;
+    let join = join_of(alloc, rows, given)?;
     let set = set_of(alloc, has_a, has_b)?;
     let mut scratch = Scratch::new(alloc, 2)?;
     Ok(is_answer(&join, &set, &mut scratch))
@@ -125,67 +147,94 @@ fn answers_of_two_atoms(rt: HostRuntime) -> Result<(), Fail> {
         (
             "a :- not b. b :- not a.",
             [tiny(a, None, b), tiny(b, None, a)],
+            None,
             [false, true, true, false],
         ),
         (
             "a :- b. b :- a.",
             [tiny(a, b, None), tiny(b, a, None)],
+            None,
             [true, false, false, false],
         ),
         (
             "a :- not b. :- a.",
             [tiny(a, None, b), tiny(None, a, None)],
+            None,
             [false, false, false, false],
         ),
         (
             "b :- not a. :- a.",
             [tiny(b, None, a), tiny(None, a, None)],
+            None,
             [false, false, true, false],
         ),
         (
             "b :- a. a.",
             [tiny(b, a, None), tiny(a, None, None)],
+            None,
             [false, false, false, true],
         ),
         (
             "a :- not a. a :- b.",
             [tiny(a, None, a), tiny(a, b, None)],
+            None,
             [false, false, false, false],
         ),
         (
             "{a}. b :- a.",
             [choice(a, None, None), tiny(b, a, None)],
+            None,
             [true, false, false, true],
         ),
         (
             "{a} :- not b. {b} :- a.",
             [choice(a, None, b), choice(b, a, None)],
+            None,
             [true, true, false, false],
         ),
         (
             "{a} :- b. b :- a.",
             [choice(a, b, None), tiny(b, a, None)],
+            None,
             [true, false, false, false],
         ),
+        (
+            "a :- b. with b true",
+            [tiny(a, b, None), tiny(a, b, None)],
+            Some(Truth::True),
+            [false, false, false, true],
+        ),
+        (
+            "a :- b. with b false",
+            [tiny(a, b, None), tiny(a, b, None)],
+            Some(Truth::False),
+            [true, false, false, false],
+        ),
+        (
+            "a :- b. with b free",
+            [tiny(a, b, None), tiny(a, b, None)],
+            Some(Truth::Free),
+            [true, false, false, true],
+        ),
     ];
-    for (text, rows, wanted) in &table {
+    for (text, rows, given, wanted) in &table {
         assert_eq!(rt;
-            answers(alloc, rows, false, false)?,
+            answers(alloc, rows, *given, false, false)?,
             wanted[0],
             "{{}} by {text}"
         );
         assert_eq!(rt;
-            answers(alloc, rows, true, false)?,
+            answers(alloc, rows, *given, true, false)?,
             wanted[1],
             "{{a}} by {text}"
         );
         assert_eq!(rt;
-            answers(alloc, rows, false, true)?,
+            answers(alloc, rows, *given, false, true)?,
             wanted[2],
             "{{b}} by {text}"
         );
         assert_eq!(rt;
-            answers(alloc, rows, true, true)?,
+            answers(alloc, rows, *given, true, true)?,
             wanted[3],
             "{{a, b}} by {text}"
         );

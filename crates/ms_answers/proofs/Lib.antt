@@ -1,0 +1,4 @@
+mod Carrying
+mod Listed
+mod Places
+mod Rising
