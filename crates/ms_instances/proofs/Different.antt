@@ -1,6 +1,6 @@
 -- Lists without equal members.
-use Rattle.std.proofs.Common.{◌≡◌, ◌≢◌, ℕ, zero, suc, ◌+◌, ◌<◌, ◌≤◌, Bool, true, false, cond, inl, inr, List, [], ◌∷◌, ◌++◌, map, length, AllPairs, refl, sym, ap, ◌∙◌, subst, arith, length-append, ⊤}
-use Rattle.std.specs.Prelude.{Contains, flat_map, filter}
+use Rattle.std.proofs.Common.{◌≡◌, ◌≢◌, ℕ, zero, suc, ◌+◌, ◌<◌, ◌≤◌, Bool, true, false, cond, inl, inr, List, [], ◌∷◌, ◌++◌, map, length, AllPairs, refl, sym, ap, ◌∙◌, subst, arith, length-append, ◌⊎◌}
+use Rattle.std.specs.Prelude.{⊤, Contains, flat_map, filter}
 use Rattle.std.proofs.lemmas.List.Kept.{AllPairs-cons}
 use Rattle.std.proofs.lemmas.List.Elements.{Contains-append_cases, Contains-append_left, Contains-append_right}
 use Rattle.ms_copies.proofs.Integers.{contains_first}
@@ -53,7 +53,7 @@ different_flat {X} {Y} f (x ∷ xs) each one h =
         (λ (y : Y) (c : Contains (f x) y) (d : Contains (flat_map f xs) y).
         let from = flat_parts f xs y d in h.0 (subst (λ (z : X). Contains xs z) (one from.0 x y from.2 c) from.1))
 
-within_chosen : {X : Type 0} (b : Bool) (x : X) (xs : List X) (y : X) → Contains (cond b (x ∷ xs) xs) y → (b ≡ true × (x ≡ y)) ⊎ Contains xs y
+within_chosen : {X : Type 0} (b : Bool) (x : X) (xs : List X) (y : X) → Contains (cond b (x ∷ xs) xs) y → ((b ≡ true) × (x ≡ y)) ⊎ Contains xs y
 within_chosen true x xs y c = elim (contains_cons x xs y c) [
   | inl same ↦ inl (refl, same)
   | inr there ↦ inr there
