@@ -1,5 +1,5 @@
 -- What a rule says under a choice, and its copy with this choice.
-use Rattle.std.proofs.Common.{◌≡◌, ℕ, Bool, true, false, ◌&&◌, inl, inr, List, [], ◌∷◌, ◌++◌, map, length, All, Any, Option, Some, None, refl, sym, ap, ◌∙◌, subst, arith}
+use Rattle.std.proofs.Common.{◌≡◌, Bool, true, false, ◌&&◌, inl, inr, List, [], ◌∷◌, ◌++◌, map, length, All, Option, Some, None, refl, sym, ap, ◌∙◌, subst, arith}
 use Rattle.std.specs.Prelude.{Contains, IsSome, IsSomeAnd, is_some, unwrap_or, option_map, option_and_then, option_to_list, flat_map}
 use Rattle.std.specs.List.{list_all}
 use Rattle.std.proofs.lemmas.Bool.{and_parts}
@@ -11,7 +11,7 @@ use Rattle.ms_core.specs.declared.rule.Test.{Test}
 use Rattle.ms_core.specs.declared.rule.Agg.{Agg}
 use Rattle.ms_core.specs.declared.rule.CoreRule.{CoreRule}
 use Rattle.ms_copies.specs.Evaluating.{Chosen, value}
-use Rattle.ms_copies.specs.Choosing.{AreChosen, Holds, terms_of, IsCopy}
+use Rattle.ms_copies.specs.Choosing.{AreChosen, Holds, IsCopy}
 use Rattle.ms_copies.specs.Grounding.{head_under}
 use Rattle.ms_copies.specs.Simplifying.{IsAmong, IsValueOf}
 use Rattle.ms_copies.proofs.Integers.{contains_first}
@@ -122,10 +122,11 @@ copy_says rule chosen c =
     let front : All (HasValue chosen) (heads ++ rule.conds.pos) = all_left (HasValue chosen) _ rule.conds.neg bodies in
     let head = head_some chosen rule.head (all_left (HasValue chosen) heads rule.conds.pos front) in
     let pos = values_some chosen rule.conds.pos (all_right (HasValue chosen) heads rule.conds.pos front) in
-    let neg = values_some chosen rule.conds.neg (all_right (HasValue chosen) (heads ++ rule.conds.pos) rule.conds.neg bodies) in
-    (record { kind = rule.kind; head = head.0; pos = pos.0; neg = neg.0 },
-    said_made rule.kind (list_all (holds chosen) rule.conds.tests) (head_value chosen rule.head) (values chosen rule.conds.pos) (values chosen rule.conds.neg)
-        head.0 pos.0 neg.0 (all_hold_to chosen rule.conds.tests c.compared) head.1 pos.1 neg.1)
+    let neg = values_some chosen rule.conds.neg (all_right (HasValue chosen) (heads ++ rule.conds.pos) rule.conds.neg bodies) in (
+      record { kind = rule.kind; head = head.0; pos = pos.0; neg = neg.0 },
+      said_made rule.kind (list_all (holds chosen) rule.conds.tests) (head_value chosen rule.head) (values chosen rule.conds.pos) (values chosen rule.conds.neg)
+          head.0 pos.0 neg.0 (all_hold_to chosen rule.conds.tests c.compared) head.1 pos.1 neg.1,
+    )
 
 -- a value among the values is the value of one of the terms
 pub among_values : (chosen : Chosen) (ps : List Pattern) (ts : List Tree) (t : Tree) → values chosen ps ≡ Some ts → Contains ts t → IsValueOf chosen ps t
@@ -134,8 +135,8 @@ among_values chosen (p ∷ ps) ts t e c =
     let Is : Pattern → Type 0 = λ q. value chosen q ≡ Some t in
     let parts = both_parts (value chosen p) (values chosen ps) ts e in
     elim (contains_cons parts.first parts.rest t (subst (λ (us : List Tree). Contains us t) parts.are c)) [
-    | inl same ↦ any_made Is (p ∷ ps) p (contains_first p ps) (parts.first_is ∙ ap Some same)
-    | inr there ↦ let found = any_parts Is ps (among_values chosen ps parts.rest t parts.rest_is there) in any_made Is (p ∷ ps) found.0 (contains_more p ps found.0 found.1) found.2
+      | inl same ↦ any_made Is (p ∷ ps) p (contains_first p ps) (parts.first_is ∙ ap Some same)
+      | inr there ↦ let found = any_parts Is ps (among_values chosen ps parts.rest t parts.rest_is there) in any_made Is (p ∷ ps) found.0 (contains_more p ps found.0 found.1) found.2
     ]
 
 pub value_among : (chosen : Chosen) (ps : List Pattern) (ts : List Tree) (p : Pattern) (t : Tree) → values chosen ps ≡ Some ts → Contains ps p → value chosen p ≡ Some t → Contains ts t
@@ -143,9 +144,9 @@ value_among chosen [] ts p t e (k, inside, is) v = absurd (omega arith)
 value_among chosen (q ∷ ps) ts p t e c v =
     let parts = both_parts (value chosen q) (values chosen ps) ts e in
     let placed : Contains (parts.first ∷ parts.rest) t = elim (contains_cons q ps p c) [
-    | inl same ↦ let equal : Some parts.first ≡ Some t = sym parts.first_is ∙ ap (value chosen) same ∙ v in
-        let here : parts.first ≡ t = cc in subst (λ (u : Tree). Contains (parts.first ∷ parts.rest) u) here (contains_first parts.first parts.rest)
-    | inr there ↦ contains_more parts.first parts.rest t (value_among chosen ps parts.rest p t parts.rest_is there v)
+      | inl same ↦ let equal : Some parts.first ≡ Some t = sym parts.first_is ∙ ap (value chosen) same ∙ v in
+          let here : parts.first ≡ t = cc in subst (λ (u : Tree). Contains (parts.first ∷ parts.rest) u) here (contains_first parts.first parts.rest)
+      | inr there ↦ contains_more parts.first parts.rest t (value_among chosen ps parts.rest p t parts.rest_is there v)
     ] in
     subst (λ (us : List Tree). Contains us t) (sym parts.are) placed
 

@@ -1,5 +1,5 @@
 -- There are as many copies of rules without aggregates as they say things.
-use Rattle.std.proofs.Common.{◌≡◌, ◌≢◌, ℕ, zero, suc, ◌+◌, ◌<◌, ◌≤◌, ℤ, pos, negsuc, ◌+ℤ◌, ◌-ℤ◌, ◌≤ℤ◌, ◌<ℤ◌, Bool, true, false, cond, inl, inr, List, [], ◌∷◌, ◌++◌, map, length, All, Option, Some, None, refl, sym, ap, ◌∙◌, subst, arith, length-append}
+use Rattle.std.proofs.Common.{◌≡◌, ℕ, zero, suc, ◌+◌, ◌<◌, ◌≤◌, ℤ, pos, negsuc, ◌+ℤ◌, ◌-ℤ◌, ◌≤ℤ◌, ◌<ℤ◌, Bool, cond, inl, inr, List, [], ◌∷◌, ◌++◌, map, length, All, Option, Some, None, refl, sym, ap, ◌∙◌, subst, arith, length-append}
 use Rattle.std.specs.Prelude.{Contains, IsSomeAnd, is_some, filter, slice_get}
 use Rattle.std.specs.List.{filter_map, cons_option}
 use Rattle.std.proofs.lemmas.Int.{ints}
@@ -14,7 +14,6 @@ use Rattle.ms_copies.specs.InOrder.{integers, integers_between, integers_within,
 use Rattle.ms_copies.specs.Limits.{most_copies, Copy, ElementCopy, IsCopyOf, IsElementCopyIn, IsElementCopyOf, HasTooManyCopies}
 use Rattle.ms_copies.proofs.Integers.{integers_more, integers_none, integers_bounds, contains_first}
 use Rattle.ms_copies.proofs.Listed.{map_parts, map_among, choices_from, choices_to}
-use Rattle.ms_instances.specs.Instances.{Said}
 use Rattle.ms_instances.specs.Listing.{said_of, said_by_rule, all_said}
 use Rattle.ms_instances.proofs.Members.{contains_more, all_from}
 use Rattle.ms_instances.proofs.Copies.{some_of, says_copy, copy_says}
@@ -34,7 +33,7 @@ rising_integers (suc d) low high e =
     let le : low ≤ℤ high = omega (arith, ints) in
     let next : high -ℤ (low +ℤ pos 1) ≡ pos d = omega (arith, ints) in
     subst (λ (ns : List ℤ). Different ns) (sym (integers_more low high le))
-        (not_again low high, rising_integers d (low +ℤ pos 1) high next)
+    (not_again low high, rising_integers d (low +ℤ pos 1) high next)
 
 by_distance : (z low high : ℤ) → high -ℤ low ≡ z → Different (integers low high)
 by_distance (pos d) low high e = rising_integers d low high e
@@ -60,9 +59,9 @@ unfolding choices
 different_choices [] before = (nothing_in [], tt)
 different_choices (range ∷ ranges) before =
     different_flat (λ n. map (λ c. n ∷ c) (choices ranges (before ++ n ∷ []))) (integers_within before range)
-        (λ (n : ℤ). different_map (λ c. n ∷ c) (choices ranges (before ++ n ∷ [])) (λ (c d : Chosen) (e : n ∷ c ≡ n ∷ d). let same : c ≡ d = cc in same) (different_choices ranges (before ++ n ∷ [])))
-        (λ (n m : ℤ) (y : Chosen). same_first n m y (choices ranges (before ++ n ∷ [])) (choices ranges (before ++ m ∷ [])))
-        (different_between (integer (value before range.low)) (integer (value before range.high)))
+    (λ (n : ℤ). different_map (λ c. n ∷ c) (choices ranges (before ++ n ∷ [])) (λ (c d : Chosen) (e : n ∷ c ≡ n ∷ d). let same : c ≡ d = cc in same) (different_choices ranges (before ++ n ∷ [])))
+    (λ (n m : ℤ) (y : Chosen). same_first n m y (choices ranges (before ++ n ∷ [])) (choices ranges (before ++ m ∷ [])))
+    (different_between (integer (value before range.low)) (integer (value before range.high)))
 
 abbrev says_something : CoreRule → Chosen → Bool
 says_something rule chosen = is_some (said_of rule chosen)
@@ -87,8 +86,14 @@ length_copies : (n : ℕ) (rules : List CoreRule) → length (copies_at n rules)
 length_copies n [] = refl
 length_copies n (rule ∷ rules) =
     let made : Chosen → Copy = λ c. record { place = n; chosen = c } in
-    omega (arith, length-append (map made (chosen_for rule)) (copies_at (n + 1) rules), length-map (chosen_for rule) made, filter_length rule (choices rule.conds.ranges []),
-    length_copies (n + 1) rules, length-append (said_by_rule rule) (all_said rules))
+    omega (
+      arith,
+      length-append (map made (chosen_for rule)) (copies_at (n + 1) rules),
+      length-map (chosen_for rule) made,
+      filter_length rule (choices rule.conds.ranges []),
+      length_copies (n + 1) rules,
+      length-append (said_by_rule rule) (all_said rules),
+    )
 
 -- the rule at the place of a copy
 record IsAt (n : ℕ) (rules : List CoreRule) (c : Copy) : Type 0 where
@@ -101,15 +106,15 @@ copy_at n [] plain c h = absurd (nothing_in c h)
 copy_at n (rule ∷ rules) plain c h =
     let made : Chosen → Copy = λ c. record { place = n; chosen = c } in
     elim (Contains-append_cases (map made (chosen_for rule)) (copies_at (n + 1) rules) c h) [
-    | inl here ↦
-      let from = map_parts made (chosen_for rule) c here in
-      let kept = filter_parts (says_something rule) (choices rule.conds.ranges []) from.0 from.1 in
-      let s = some_of (said_of rule from.0) kept.1 in
-      let copy : IsCopy rule from.0 = says_copy rule from.0 s.0 (All-head (λ (r : CoreRule). r.aggs ≡ []) rule rules plain) (choices_from rule.conds.ranges [] from.0 kept.0) s.1 in
-      subst (λ (d : Copy). IsAt n (rule ∷ rules) d) from.2 (record { after = 0; place = omega arith; copy = copy })
-    | inr there ↦
-      let at = copy_at (n + 1) rules (All-tail (λ (r : CoreRule). r.aggs ≡ []) rule rules plain) c there in
-      record { after = suc at.after; place = omega (arith, at.place); copy = at.copy }
+      | inl here ↦
+          let from = map_parts made (chosen_for rule) c here in
+          let kept = filter_parts (says_something rule) (choices rule.conds.ranges []) from.0 from.1 in
+          let s = some_of (said_of rule from.0) kept.1 in
+          let copy : IsCopy rule from.0 = says_copy rule from.0 s.0 (All-head (λ (r : CoreRule). r.aggs ≡ []) rule rules plain) (choices_from rule.conds.ranges [] from.0 kept.0) s.1 in
+          subst (λ (d : Copy). IsAt n (rule ∷ rules) d) from.2 (record { after = 0; place = omega arith; copy = copy })
+      | inr there ↦
+          let at = copy_at (n + 1) rules (All-tail (λ (r : CoreRule). r.aggs ≡ []) rule rules plain) c there in
+          record { after = suc at.after; place = omega (arith, at.place); copy = at.copy }
     ]
 
 copy_among : (n : ℕ) (rules : List CoreRule) (c : Copy) (k : ℕ) → c.place ≡ n + k → IsSomeAnd (slice_get rules k) (λ rule. IsCopy rule c.chosen) → Contains (copies_at n rules) c
@@ -120,8 +125,8 @@ copy_among n (rule ∷ rules) c zero e h =
     let here : n ≡ c.place = omega arith in
     let same : made c.chosen ≡ c = ap (λ (p : ℕ). record { place = p; chosen = c.chosen }) here in
     Contains-append_left (map made (chosen_for rule)) (copies_at (n + 1) rules) c
-        (subst (λ (d : Copy). Contains (map made (chosen_for rule)) d) same
-        (map_among made (chosen_for rule) c.chosen (filter_among (says_something rule) (choices rule.conds.ranges []) c.chosen (choices_to rule.conds.ranges [] c.chosen h.within) (ap is_some s.1))))
+    (subst (λ (d : Copy). Contains (map made (chosen_for rule)) d) same
+    (map_among made (chosen_for rule) c.chosen (filter_among (says_something rule) (choices rule.conds.ranges []) c.chosen (choices_to rule.conds.ranges [] c.chosen h.within) (ap is_some s.1))))
 copy_among n (rule ∷ rules) c (suc k) e h =
     Contains-append_right (map (λ d. record { place = n; chosen = d }) (chosen_for rule)) (copies_at (n + 1) rules) c (copy_among (n + 1) rules c k (omega arith) h)
 
@@ -131,14 +136,14 @@ different_copies n (rule ∷ rules) plain =
     let made : Chosen → Copy = λ c. record { place = n; chosen = c } in
     let rest = All-tail (λ (r : CoreRule). r.aggs ≡ []) rule rules plain in
     different_append (map made (chosen_for rule)) (copies_at (n + 1) rules)
-        (different_map made (chosen_for rule) (λ (c d : Chosen) (e : made c ≡ made d). ap (λ (x : Copy). x.chosen) e)
-        (different_filter (says_something rule) (choices rule.conds.ranges []) (different_choices rule.conds.ranges [])))
-        (different_copies (n + 1) rules rest)
-        (λ (x : Copy) (a : Contains (map made (chosen_for rule)) x) (b : Contains (copies_at (n + 1) rules) x).
-        let p = map_parts made (chosen_for rule) x a in
-        let place : n ≡ x.place = ap (λ (y : Copy). y.place) p.2 in
-        let at = copy_at (n + 1) rules rest x b in
-        omega (arith, place, at.place))
+    (different_map made (chosen_for rule) (λ (c d : Chosen) (e : made c ≡ made d). ap (λ (x : Copy). x.chosen) e)
+    (different_filter (says_something rule) (choices rule.conds.ranges []) (different_choices rule.conds.ranges [])))
+    (different_copies (n + 1) rules rest)
+    (λ (x : Copy) (a : Contains (map made (chosen_for rule)) x) (b : Contains (copies_at (n + 1) rules) x).
+    let p = map_parts made (chosen_for rule) x a in
+    let place : n ≡ x.place = ap (λ (y : Copy). y.place) p.2 in
+    let at = copy_at (n + 1) rules rest x b in
+    omega (arith, place, at.place))
 
 is_copy_of : (rules : List CoreRule) (c : Copy) → IsAt 0 rules c → IsCopyOf rules c
 is_copy_of rules c at =

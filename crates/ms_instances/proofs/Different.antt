@@ -1,5 +1,5 @@
 -- Lists without equal members.
-use Rattle.std.proofs.Common.{◌≡◌, ◌≢◌, ℕ, zero, suc, ◌+◌, ◌<◌, ◌≤◌, Bool, true, false, cond, inl, inr, List, [], ◌∷◌, ◌++◌, map, length, AllPairs, refl, sym, ap, ◌∙◌, subst, arith, length-append, ◌⊎◌}
+use Rattle.std.proofs.Common.{◌≡◌, ◌≢◌, suc, ◌<◌, ◌≤◌, Bool, true, false, cond, inl, inr, List, [], ◌∷◌, ◌++◌, map, length, AllPairs, refl, sym, ap, ◌∙◌, subst, arith, length-append, ◌⊎◌}
 use Rattle.std.specs.Prelude.{⊤, Contains, flat_map, filter}
 use Rattle.std.proofs.lemmas.List.Kept.{AllPairs-cons}
 use Rattle.std.proofs.lemmas.List.Elements.{Contains-append_cases, Contains-append_left, Contains-append_right}
@@ -19,8 +19,8 @@ pub different_pairs : {X : Type 0} (xs : List X) → Different xs → AllPairs (
 different_pairs [] h = λ i j d less inside. absurd (omega arith)
 different_pairs {X} (x ∷ xs) h =
     AllPairs-cons (λ y z. y ≢ z) x xs
-        (all_from (λ y. x ≢ y) xs (λ (y : X) (c : Contains xs y). λ (e : x ≡ y). h.0 (subst (λ (z : X). Contains xs z) (sym e) c)))
-        (different_pairs xs h.1)
+    (all_from (λ y. x ≢ y) xs (λ (y : X) (c : Contains xs y). λ (e : x ≡ y). h.0 (subst (λ (z : X). Contains xs z) (sym e) c)))
+    (different_pairs xs h.1)
 
 pub pairs_different : {X : Type 0} (xs : List X) → AllPairs (λ x y. x ≢ y) xs → Different xs
 pairs_different [] h = tt
@@ -33,8 +33,8 @@ pub different_append : {X : Type 0} (xs ys : List X) → Different xs → Differ
 different_append [] ys h g apart = g
 different_append {X} (x ∷ xs) ys h g apart = (
   λ (c : Contains (xs ++ ys) x). elim (Contains-append_cases xs ys x c) [
-  | inl here ↦ h.0 here
-  | inr there ↦ apart x (contains_first x xs) there
+    | inl here ↦ h.0 here
+    | inr there ↦ apart x (contains_first x xs) there
   ],
   different_append xs ys h.1 g (λ y c d. apart y (contains_more x xs y c) d),
 )
@@ -50,8 +50,8 @@ pub different_flat : {X Y : Type 0} (f : X → List Y) (xs : List X) → ((x : X
 different_flat f [] each one h = tt
 different_flat {X} {Y} f (x ∷ xs) each one h =
     different_append (f x) (flat_map f xs) (each x) (different_flat f xs each one h.1)
-        (λ (y : Y) (c : Contains (f x) y) (d : Contains (flat_map f xs) y).
-        let from = flat_parts f xs y d in h.0 (subst (λ (z : X). Contains xs z) (one from.0 x y from.2 c) from.1))
+    (λ (y : Y) (c : Contains (f x) y) (d : Contains (flat_map f xs) y).
+    let from = flat_parts f xs y d in h.0 (subst (λ (z : X). Contains xs z) (one from.0 x y from.2 c) from.1))
 
 within_chosen : {X : Type 0} (b : Bool) (x : X) (xs : List X) (y : X) → Contains (cond b (x ∷ xs) xs) y → ((b ≡ true) × (x ≡ y)) ⊎ Contains xs y
 within_chosen true x xs y c = elim (contains_cons x xs y c) [
@@ -120,5 +120,5 @@ no_longer {X} (x ∷ xs) ys h f =
     let a = around ys x (f x (contains_first x xs)) in
     let less : length xs ≤ length (a.front ++ a.back) = no_longer xs (a.front ++ a.back) h.1 (λ (y : X) (c : Contains xs y).
     elsewhere a.front a.back x y (subst (λ (zs : List X). Contains zs y) a.is (f y (contains_more x xs y c)))
-        (λ (e : x ≡ y). h.0 (subst (λ (z : X). Contains xs z) (sym e) c))) in
+    (λ (e : x ≡ y). h.0 (subst (λ (z : X). Contains xs z) (sym e) c))) in
     omega (arith, ap length a.is, length-append a.front (x ∷ a.back), length-append a.front a.back)

@@ -1,5 +1,5 @@
 -- What copies say has the same ground module, and the same known atoms, as the rules.
-use Rattle.std.proofs.Common.{◌≡◌, ℕ, Bool, true, inl, inr, ◌⊎◌, ◌↔◌, List, [], ◌++◌, All, Any, Option, Some, None, sym, ap, ◌∙◌, subst}
+use Rattle.std.proofs.Common.{◌≡◌, ℕ, Bool, true, inl, inr, ◌↔◌, List, [], ◌++◌, All, Any, Option, Some, None, sym, ap, ◌∙◌, subst}
 use Rattle.std.specs.Prelude.{Contains, IsSomeAnd, slice_get}
 use Rattle.std.proofs.lemmas.List.Elements.{All-contains, All-weaker}
 use Rattle.ms_tree.specs.Tree.{Tree}
@@ -16,7 +16,7 @@ use Rattle.ms_copies.specs.Simplifying.{ground_kind, IsAmong, IsValueOf, IsNumbe
 use Rattle.ms_copies.proofs.Listed.{choices_from, choices_to}
 use Rattle.ms_instances.specs.Instances.{Said, IsHeadAmong, IsKnownBy, Leaves, AreLeftBy, AreNewBy, IsModuleBy}
 use Rattle.ms_instances.specs.Listing.{values, all_said}
-use Rattle.ms_instances.proofs.Members.{Source, source_of, from_source, all_from, any_parts, any_made}
+use Rattle.ms_instances.proofs.Members.{source_of, from_source, all_from, any_parts, any_made}
 use Rattle.ms_instances.proofs.Copies.{IsSaid, says, says_copy, copy_says, among_values, value_among, known_to, known_from}
 
 -- No rule has an aggregate.
@@ -78,21 +78,22 @@ head_from is_kind rules t h =
     any_made (Gave is_kind t) (all_said rules) g.s g.among (ap is_kind g.said.kind ∙ found.2.0, sym g.said.head ∙ copy.2)
 
 pub known_by : (base : List Tree) (rules : List CoreRule) → ArePlain rules → (t : Tree) → IsKnownBy base (all_said rules) t ↔ IsKnown base rules t
-known_by base rules plain t =
-    (λ (h : IsKnownBy base (all_said rules) t). elim h [
+known_by base rules plain t = (
+  λ (h : IsKnownBy base (all_said rules) t). elim h [
     | inl old ↦ inl old
     | inr given ↦ elim given [
       | inl head ↦ inr (inl (head_to gives_head rules plain t head))
       | inr external ↦ inr (inr (head_to gives_external rules plain t external))
-      ]
-    ],
-    λ (h : IsKnown base rules t). elim h [
+    ]
+  ],
+  λ (h : IsKnown base rules t). elim h [
     | inl old ↦ inl old
     | inr given ↦ elim given [
       | inl head ↦ inr (inl (head_from gives_head rules t head))
       | inr external ↦ inr (inr (head_from gives_external rules t external))
-      ]
-    ])
+    ]
+  ],
+)
 
 some_and_more : {X : Type 0} (o : Option X) (P Q : X → Type 0) → ((x : X) → P x → Q x) → IsSomeAnd o P → IsSomeAnd o Q
 some_and_more None P Q f h = h
@@ -138,7 +139,7 @@ kept_of : (atoms : List Tree) (rules : List CoreRule) (left : List GroundRule) �
 kept_of atoms rules left every rule c chosen copy kind is known =
     let g = gives rules rule chosen c copy in
     let found = any_parts (Leaves atoms g.s) left (All-contains (IsKept atoms left) (all_said rules) g.s every g.among kind (ap ground_kind g.said.kind ∙ is)
-        (known_from atoms chosen rule.conds.pos g.s.pos g.said.pos known)) in
+    (known_from atoms chosen rule.conds.pos g.s.pos g.said.pos known)) in
     any_made (IsLeft atoms rule chosen) left found.0 found.1 (leaves_left atoms rule chosen g.s found.0 g.said found.2)
 
 left_by : (atoms : List Tree) (rules : List CoreRule) → ArePlain rules → (left : List GroundRule) → AreLeftBy atoms (all_said rules) left → AreLeft atoms rules left

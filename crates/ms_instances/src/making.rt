@@ -10,7 +10,7 @@ use ms_base::seq::Seq;
 use ms_core::pattern::Pattern;
 use ms_core::rule::{CoreRule, Test};
 use ms_term::{OutOfMemory, TermId, Terms};
-use ms_value::{evaluate, evaluate_all, holds};
+use ms_value::{evaluate, evaluate_all, holds, integers_hold};
 use std::alloc::Global;
 
 /// What a rule says under a choice, or `None` exactly where a comparison doesn't hold or a term has no value.
@@ -59,8 +59,23 @@ fn all_hold(
     Ok(true)
 }
 
-/// Whether a comparison holds, with a value on both sides.
+/// Whether a comparison holds, with a value on both sides. Terms are named only where one of them is no integer.
 fn test_holds(
+    alloc: Global,
+    terms: &mut Terms,
+    test: &Test,
+    chosen: &[i64],
+) -> Result<bool, OutOfMemory>
+    ensures { IfOk result (λ it. Tells (trees terms.old) (trees terms.new) it (holds chosen.now test.now)) }
+{
+    match integers_hold(test, chosen) {
+        Some(it) => Ok(it),
+        None => terms_hold(alloc, terms, test, chosen),
+    }
+}
+
+/// The same by the names of the terms.
+fn terms_hold(
     alloc: Global,
     terms: &mut Terms,
     test: &Test,
