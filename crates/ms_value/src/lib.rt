@@ -9,7 +9,7 @@ mod place;
 mod tests;
 mod walk;
 
-pub use comparing::holds;
+pub use comparing::{holds, integers_hold};
 pub use evaluating::{evaluate, evaluate_all};
 pub use integers::{ends, integer};
 pub use ms_term::{OutOfMemory, TermId, Terms};
