@@ -1,5 +1,5 @@
 -- Rules seen from the atoms on which their heads depend.
-use Rattle.std.specs.Prelude.{ℕ, ◌≡◌, ◌<◌, List, All, Any}
+use Rattle.std.specs.Prelude.{ℕ, ◌≡◌, ◌<◌, ◌⊎◌, List, Option, Some, All, Any, Contains}
 use Rattle.ms_join.specs.declared.ground_rule.GroundRule.{GroundRule}
 use Rattle.ms_join.specs.Dependencies.{Depends}
 use Rattle.ms_cone.specs.declared.uses.Use.{Use}
@@ -20,3 +20,9 @@ pub record Keeps (uses : List Use) (rules : List GroundRule) : Type 0 where
 -- the heads are below the number of atoms
 abbrev pub HaveHeadsBelow : ℕ → List Use → Type 0
 HaveHeadsBelow atoms uses = All (λ u. u.head < atoms) uses
+
+-- The atoms become used for the head, where there is one, and what was used stays so.
+pub record AddsUses (old new : List Use) (head : Option ℕ) (atoms : List ℕ) : Type 0 where
+  pub kept : (a b : ℕ) → IsUse old a b → IsUse new a b
+  pub each : (a b : ℕ) → head ≡ Some a → Contains atoms b → IsUse new a b
+  pub only : (a b : ℕ) → IsUse new a b → IsUse old a b ⊎ ((head ≡ Some a) × Contains atoms b)

@@ -1,7 +1,9 @@
 // The uses of each atom in the bodies of rules, linked backwards.
-ghost use Rattle.std.specs.Prelude.{◌≡◌, ◌+◌, ◌<◌, ◌≤◌, ◌++◌, ◌∷◌, [], ℕ, List, nat_eq, length, slice_get, Some, OnOk};
+ghost use Rattle.std.specs.Prelude.{◌≡◌, ◌-◌, ◌<◌, ◌≤◌, ◌++◌, ◌∷◌, [], List, length, Some, OnOk};
+ghost use Rattle.std.specs.List.{slice_index_or};
 ghost use Rattle.ms_join.specs.declared.ground_rule.GroundRule.{GroundRule};
-ghost use Rattle.ms_cone.specs.Uses.{Keeps};
+ghost use Rattle.ms_cone.specs.Chains.{IsLast};
+ghost use Rattle.ms_cone.specs.Uses.{Keeps, AddsUses};
 
 use indexmap::IndexMap;
 use ms_base::atom_id::AtomId;
@@ -55,9 +57,51 @@ impl Dependencies {
     pub fn add(&mut self, rules: &[GroundRule]) -> Result<(), OutOfMemory>
         ensures { OnOk result ((before : List GroundRule) → Keeps self.old before → Keeps self.new (before ++ rules.now)) }
     {
-        if self.uses.len() > rules.len() {
-            return Err(OutOfMemory);
+        for rule in rules {
+            self.add_rule(rule)?;
         }
-        Err(OutOfMemory)
+        Ok(())
+    }
+
+    fn add_rule(&mut self, rule: &GroundRule) -> Result<(), OutOfMemory>
+        ensures { OnOk result (AddsUses self.old self.new rule.now.head rule.now.pos) }
+    {
+        let Some(head) = rule.head else {
+            return Ok(());
+        };
+        for atom in rule.pos.as_slice() {
+            self.add_use(*atom, head)?;
+        }
+        Ok(())
+    }
+
+    fn add_use(&mut self, atom: AtomId, head: AtomId) -> Result<(), OutOfMemory>
+        ensures { OnOk result (AddsUses self.old self.new (Some head) (atom ∷ [])) }
+    {
+        self.last.reserve(1)?;
+        let before = self.last_use(atom);
+        self.uses.push(Use { atom, head, before })?;
+        self.last.insert(atom.0, self.uses.len())?;
+        Ok(())
+    }
+
+    /// The link to the last use of an atom, or 0.
+    pub(crate) fn last_use(&self, atom: AtomId) -> usize
+        ensures { IsLast self.now atom (length self.now) result }
+    {
+        match self.last.get(&atom.0) {
+            Some(link) => *link,
+            None => 0,
+        }
+    }
+
+    /// The use to which a link leads.
+    pub(crate) fn use_at(&self, link: usize) -> Use
+        requires within { 0 < link }
+        requires found { link ≤ length self.now }
+        ensures at { result ≡ slice_index_or self.now (link - 1) result }
+        ensures before { IsLast self.now result.atom (link - 1) result.before }
+    {
+        self.uses[link - 1]
     }
 }
