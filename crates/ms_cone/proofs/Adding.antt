@@ -1,10 +1,13 @@
 -- Uses that come to others.
-use Rattle.std.proofs.Common.{◌≡◌, ◌<◌, ◌⊎◌, ℕ, List, [], ◌∷◌, ◌++◌, Option, Some, All, Any, Contains, inl, inr, refl, sym, ap, subst, ◌∙◌, length, take, get_or, take_more, arith}
+use Rattle.std.proofs.Common.{◌≡◌, ◌<◌, ◌⊎◌, ℕ, List, [], ◌∷◌, ◌++◌, Option, Some, All, Any, Contains, inl, inr, refl, sym, ap, subst, ◌∙◌, length, None, IsSomeAnd, get_or, arith}
 use Rattle.std.proofs.lemmas.List.Elements.{Contains-append_cases, Contains-append_left, Contains-push, Contains-push_cases, All-contains}
 use Rattle.std.proofs.lemmas.List.Quantifiers.{Any-push}
-use Rattle.std.proofs.lemmas.Option.{same_Some}
+use Rattle.std.proofs.lemmas.List.{get_or_default}
+use Rattle.std.proofs.lemmas.Option.{same_Some, none-some}
 use Rattle.ms_join.specs.declared.ground_rule.GroundRule.{GroundRule}
-use Rattle.ms_join.specs.AnswerSets.{IsRuleOver}
+use Rattle.ms_join.specs.declared.ground_rule.GroundKind.{GroundKind}
+use Rattle.ms_join.specs.declared.ground_rule.GroundKind.TheVariants.{Normal, Choice, Constraint}
+use Rattle.ms_join.specs.AnswerSets.{IsRuleOver, HasHead}
 use Rattle.ms_join.specs.Dependencies.{Depends}
 use Rattle.ms_cone.specs.declared.uses.Use.{Use}
 use Rattle.ms_cone.specs.Uses.{IsFor, IsUse, Keeps, AddsUses, HaveHeadsBelow}
@@ -83,6 +86,16 @@ keeps_more old new rules rule keeps adds = record {
   ];
 }
 
+head_below : (n : ℕ) (kind : GroundKind) (head : Option ℕ) (a : ℕ) → HasHead n kind head → head ≡ Some a → a < n
+head_below n Normal head a has is = subst (λ h. IsSomeAnd h (λ x. x < n)) is has
+head_below n Choice head a has is = subst (λ h. IsSomeAnd h (λ x. x < n)) is has
+head_below n Constraint head a has is = absurd (none-some a (sym has ∙ is))
+
 -- the heads of rules are below the number of atoms
 pub heads_below : (atoms : ℕ) (uses : List Use) (rules : List GroundRule) → Keeps uses rules → All (IsRuleOver atoms) rules → HaveHeadsBelow atoms uses
-heads_below atoms uses rules keeps over k d within = ?
+heads_below atoms uses rules keeps over k d within =
+    let u = get_or uses k d in
+    let depends : Depends rules u.head u.atom = keeps.only u.head u.atom (k, u, within, get_or_default uses k u d within, record { head = refl; atom = refl }) in
+    let rule = depends.1 in
+    let is_over : IsRuleOver atoms rule = All-contains (IsRuleOver atoms) rules rule over (depends.0, depends.2, depends.3) in
+    head_below atoms rule.kind rule.head u.head is_over.head depends.4.0

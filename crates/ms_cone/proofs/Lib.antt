@@ -1,5 +1,5 @@
 pub mod Adding
-pub mod Chained
 pub mod CrossLoops
+pub mod Entering
 pub mod Members
 pub mod Walks

@@ -2,14 +2,16 @@
 ghost use Rattle.std.specs.Prelude.{◌≡◌, ◌<◌, ◌++◌, ℕ, List, All, length, slice_get, slice_index, Some, IfOk};
 ghost use Rattle.ms_join.specs.declared.ground_rule.GroundRule.{GroundRule};
 ghost use Rattle.ms_join.specs.AnswerSets.{IsRuleOver};
+ghost use Rattle.ms_graph.specs.Components.{IsNumbering};
 ghost use Rattle.ms_cone.specs.Uses.{Keeps, HaveHeadsBelow};
 ghost use Rattle.ms_cone.specs.Cones.{IsCone, number_of};
 
+use crate::search::Search;
 use crate::uses::Dependencies;
 use indexmap::IndexSet;
 use ms_base::atom_id::AtomId;
 use ms_base::memory::OutOfMemory;
-use ms_graph::Comps;
+use ms_graph::{Comps, components};
 use ms_join::ground_rule::GroundRule;
 use std::alloc::Global;
 use std::marker::Model;
@@ -47,7 +49,23 @@ impl Cone {
         requires starts { All (λ a. a < atoms) starts.now }
         ensures { IfOk result (λ cone. (rules : List GroundRule) → Keeps old.now rules → IsCone (rules ++ new.now) starts.now cone) }
     {
-        Err(OutOfMemory)
+        let mut fresh = Dependencies::new(alloc);
+        fresh.add(new)?;
+        let search = Search::whole(alloc, old, &fresh, atoms, starts)?;
+        Cone::numbered(alloc, search)
+    }
+
+    /// The members of a search with the numbers of their components.
+    fn numbered(alloc: Global, search: Search) -> Result<Cone, OutOfMemory>
+        ensures members { IfOk result (λ cone. cone.members ≡ search.members) }
+        ensures numbers { IfOk result (λ cone. IsNumbering (length search.members) search.edges cone.numbers) }
+    {
+        let count = search.members.len() as u32;
+        let numbers = components(alloc, count, &search.edges)?;
+        Ok(Cone {
+            members: search.members,
+            numbers,
+        })
     }
 
     /// The number of atoms.

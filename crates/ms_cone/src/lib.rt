@@ -3,6 +3,7 @@
 #![tactic(auto)]
 
 mod cone;
+mod search;
 mod uses;
 
 pub use cone::Cone;

@@ -5,4 +5,7 @@ use Rattle.ms_cone.proofs.Adding.{adds_one}
 use Rattle.ms_cone.proofs.uses.Dependencies.add_use.Goals as goal
 
 pub returns : goal.returns
-returns c = let e = c.in_ok-push.ensures.items in let v = c.self.view_is in ?
+returns c =
+    let uses = c.self.inside.uses.items in
+    subst (λ (now : List Use). AddsUses now c.push.new.self.items (Some c.args.head) (c.args.atom ∷ [])) c.self.view_is
+    (subst (λ (new : List Use). AddsUses uses new (Some c.args.head) (c.args.atom ∷ [])) (sym c.in_ok-push.ensures.items) (adds_one uses _ c.args.head c.args.atom refl refl))
