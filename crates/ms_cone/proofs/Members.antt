@@ -31,6 +31,13 @@ member_at cone a n (Some place) at is =
 pub member_of : (cone : Numbered) (a n : ℕ) → number_of cone a ≡ Some n → IsMember cone a n
 member_of cone a n is = member_at cone a n (position (nat_eq a) cone.members) refl is
 
+-- between a place that has the atom and the list that contains it
+pub contains_at : (atoms : List ℕ) (i a : ℕ) → slice_get atoms i ≡ Some a → Contains atoms a
+contains_at atoms i a at = (i, slice_get_within atoms i a at, get_or_from_slice_get atoms i a a at)
+
+pub at_contains : (atoms : List ℕ) (a : ℕ) (here : Contains atoms a) → slice_get atoms here.0 ≡ Some a
+at_contains atoms a here = slice_get-get_or atoms here.0 a here.1 ∙ ap Some here.2
+
 -- an atom stands in one place
 pub same_place : (atoms : List ℕ) (i k a : ℕ) → IsDistinct nat_eq atoms → slice_get atoms i ≡ Some a → slice_get atoms k ≡ Some a → i ≡ k
 same_place atoms i k a once at_i at_k =

@@ -1,5 +1,5 @@
 -- The search backwards for the atoms that reach given ones.
-use Rattle.std.specs.Prelude.{ℕ, ◌≡◌, ◌^◌, ◌<◌, ◌≤◌, ◌⊎◌, nat_eq, List, Some, All, Contains, length, slice_get}
+use Rattle.std.specs.Prelude.{ℕ, ◌≡◌, ◌^◌, ◌<◌, ◌≤◌, ◌⊎◌, nat_eq, List, [], Some, All, Contains, length, slice_get}
 use Rattle.std.specs.List.{IsDistinct}
 use Rattle.ms_graph.specs.declared.edge.Edge.{Edge}
 use Rattle.ms_graph.specs.Components.{IsGraph}
@@ -29,6 +29,7 @@ pub record Enters (old new : Found) (a place : ℕ) : Type 0 where
   pub edges : new.edges ≡ old.edges
   pub members : Grows old.members new.members (λ x. x ≡ a)
   pub at : slice_get new.members place ≡ Some a
+  pub graph : IsGraph (length old.members) new.edges
 
 -- an edge leads from the place of the one atom to that of the other
 pub record HasEdge (s : Found) (a b : ℕ) : Type 0 where
@@ -46,6 +47,12 @@ pub record Follows (old new : Found) (b : ℕ) (Is : ℕ → Type 0) : Type 0 wh
   pub each : (a : ℕ) → Is a → HasEdge new a b
   pub only : (x y : ℕ) → HasEdge new x y → HasEdge old x y ⊎ (Is x × (y ≡ b))
 
+-- Exactly the starts are members.
+pub record IsStart (starts : List ℕ) (s : Found) : Type 0 where
+  pub begun : (a : ℕ) → Contains starts a → Contains s.members a
+  pub only : (i a : ℕ) → slice_get s.members i ≡ Some a → Contains starts a
+  pub edges : s.edges ≡ []
+
 -- An atom leads to a member before this place.
 pub record LeadsBack (Is : ℕ → ℕ → Type 0) (members : List ℕ) (place a : ℕ) : Type 0 where
   pub earlier : ℕ
@@ -57,7 +64,7 @@ pub record LeadsBack (Is : ℕ → ℕ → Type 0) (members : List ℕ) (place a
 -- The starts are members, each other member leads to one before it, and all that leads to one of the first so many
 -- is there with its edge.
 pub record IsExplored (Is : ℕ → ℕ → Type 0) (starts : List ℕ) (s : Found) (count : ℕ) : Type 0 where
-  pub starts : (a : ℕ) → Contains starts a → Contains s.members a
+  pub begun : (a : ℕ) → Contains starts a → Contains s.members a
   pub origin : (i a : ℕ) → slice_get s.members i ≡ Some a → Contains starts a ⊎ LeadsBack Is s.members i a
   pub sound : (a b : ℕ) → HasEdge s a b → Is a b
   pub whole : (i b a : ℕ) → i < count → slice_get s.members i ≡ Some b → Is a b → HasEdge s a b

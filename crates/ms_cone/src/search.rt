@@ -1,8 +1,7 @@
 // The search backwards for the atoms that reach given ones.
-ghost use Rattle.std.specs.Prelude.{◌≡◌, ◌<◌, ◌⊎◌, ℕ, [], All, Contains, length, slice_get, Some, IfOk, OnOk};
-ghost use Rattle.ms_graph.specs.Components.{IsNumbering};
+ghost use Rattle.std.specs.Prelude.{◌≡◌, ◌<◌, ◌⊎◌, ℕ, All, length, slice_get, Some, IfOk, OnOk};
 ghost use Rattle.ms_cone.specs.Uses.{IsUse, HaveHeadsBelow};
-ghost use Rattle.ms_cone.specs.Search.{Enters, Follows, IsExplored};
+ghost use Rattle.ms_cone.specs.Search.{Enters, Follows, IsExplored, IsStart};
 
 use crate::uses::Dependencies;
 use indexmap::IndexSet;
@@ -37,7 +36,7 @@ impl Search {
     fn new(alloc: Global, atoms: u32, starts: &[AtomId]) -> Result<Search, OutOfMemory>
         requires { All (λ a. a < atoms) starts.now }
         ensures atoms { IfOk result (λ s. s.atoms ≡ atoms) }
-        ensures explored { IfOk result (λ s. (Is : ℕ → ℕ → Type 0) → IsExplored Is starts.now s 0) }
+        ensures start { IfOk result (IsStart starts.now) }
     {
         let mut search = Search {
             atoms,
