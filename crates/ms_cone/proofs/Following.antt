@@ -1,10 +1,14 @@
 -- The atoms that lead to a member are found.
-use Rattle.std.proofs.Common.{◌≡◌, ◌<◌, ◌≤◌, ◌+◌, ◌⊎◌, ℕ, List, [], ◌∷◌, ◌++◌, Some, All, Contains, slice_get, get_or, inl, inr, refl, sym, ap, subst, ◌∙◌, length, arith}
+use Rattle.std.proofs.Common.{◌≡◌, ◌<◌, ◌≤◌, ◌+◌, ◌-◌, ◌⊎◌, ℕ, List, [], ◌∷◌, ◌++◌, Some, All, Contains, slice_get, get_or, inl, inr, refl, sym, ap, subst, ◌∙◌, length, arith}
 use Rattle.std.proofs.lemmas.Bool.{cases_lt}
+use Rattle.std.proofs.lemmas.List.{get_or_default}
 use Rattle.std.proofs.lemmas.Option.{same_Some}
 use Rattle.std.proofs.lemmas.List.Elements.{All-contains, Contains-push, Contains-push_cases, Contains-append_left}
 use Rattle.ms_graph.specs.declared.edge.Edge.{Edge}
 use Rattle.ms_graph.specs.Components.{IsGraph, HasEndsBelow}
+use Rattle.ms_cone.specs.declared.uses.Use.{Use}
+use Rattle.ms_cone.specs.Uses.{IsFor, IsUse}
+use Rattle.ms_cone.specs.Chains.{IsLast, IsUseFrom}
 use Rattle.ms_cone.specs.Search.{Found, Grows, Enters, HasEdge, Follows}
 use Rattle.ms_cone.proofs.Entering.{grows_longer}
 
@@ -95,3 +99,64 @@ follows_both old mid new b P Q R first then from_p from_q cases = record {
     | inr new_one ↦ inr (from_q x new_one.0, new_one.1)
   ];
 }
+
+pub follows_same : (old new : Found) (b : ℕ) (P Q : ℕ → Type 0) → ((a : ℕ) → P a → Q a) → ((a : ℕ) → Q a → P a) → Follows old new b P → Follows old new b Q
+follows_same old new b P Q forth back follows = record {
+  atoms = follows.atoms;
+  members = record {
+    kept = follows.members.kept;
+    only = λ i a at. elim (follows.members.only i a at) [
+      | inl there ↦ inl there
+      | inr after ↦ inr (forth a after.0, after.1)
+    ];
+  };
+  kept = follows.kept;
+  each = λ a is. follows.each a (back a is);
+  only = λ x y edge. elim (follows.only x y edge) [
+    | inl there ↦ inl there
+    | inr new_one ↦ inr (forth x new_one.0, new_one.1)
+  ];
+}
+
+some_use : Use
+some_use = record { atom = 0; head = 0; before = 0 }
+
+-- beyond the last use of an atom there is none
+pub follows_last : (uses : List Use) (s : Found) (b link : ℕ) → IsLast uses b (length uses) link → Follows s s b (λ a. IsUseFrom uses link a b)
+follows_last uses s b link last = follows_none s b (λ a. IsUseFrom uses link a b)
+    (λ a use_from. last.others use_from.place some_use use_from.from use_from.within (use_from.is some_use).atom)
+
+-- the use to which the link leads is followed
+pub follows_use : (uses : List Use) (old mid new : Found) (b link : ℕ) (u : Use) → 0 < link → link ≤ length uses → u ≡ get_or uses (link - 1) u → u.atom ≡ b → IsLast uses u.atom (link - 1) u.before → Follows old mid b (λ a. IsUseFrom uses link a b) → Follows mid new b (λ a. a ≡ u.head) → Follows old new b (λ a. IsUseFrom uses u.before a b)
+follows_use uses old mid new b link u some within at atom before first then =
+    let less = before.within in
+    let inside : link - 1 < length uses = omega (arith, some, within) in
+    let use_at : (d : Use) → get_or uses (link - 1) d ≡ u = λ d. get_or_default uses (link - 1) d u inside ∙ sym at in
+    follows_both old mid new b (λ a. IsUseFrom uses link a b) (λ a. a ≡ u.head) (λ a. IsUseFrom uses u.before a b) first then
+    (λ a is. let from = is.from in record { place = is.place; from = omega (arith, from, less, some); within = is.within; is = is.is })
+    (λ a is. record {
+      place = link - 1;
+      from = less;
+      within = inside;
+      is = λ d. subst (λ (x : Use). IsFor a b x) (sym (use_at d)) (record { head = sym is; atom = atom });
+    })
+    (λ a is. elim (cases_lt is.place link) [
+      | inr more ↦ inl (record { place = is.place; from = more; within = is.within; is = is.is })
+      | inl fewer ↦ elim (cases_lt is.place (link - 1)) [
+        | inl earlier ↦ absurd (before.others is.place some_use is.from earlier ((is.is some_use).atom ∙ sym atom))
+        | inr this ↦ let same : is.place ≡ link - 1 = omega (arith, fewer, this, some) in
+            inr (sym (is.is u).head ∙ ap (λ (k : ℕ). (get_or uses k u).head) same ∙ ap (λ (x : Use). x.head) (use_at u))
+      ]
+    ])
+
+-- all uses were followed
+pub follows_uses : (uses : List Use) (old new : Found) (b link : ℕ) → link ≡ 0 → Follows old new b (λ a. IsUseFrom uses link a b) → Follows old new b (λ a. IsUse uses a b)
+follows_uses uses old new b link none follows =
+    let use_of : (a : ℕ) → IsUseFrom uses link a b → IsUse uses a b = λ a is. (is.place, get_or uses is.place some_use, is.within, get_or_default uses is.place (get_or uses is.place some_use) some_use is.within, is.is some_use) in
+    let from_use : (a : ℕ) → IsUse uses a b → IsUseFrom uses link a b = λ a is. record {
+      place = is.0;
+      from = omega (arith, none);
+      within = is.2;
+      is = λ d. subst (λ (x : Use). IsFor a b x) (sym (get_or_default uses is.0 d is.1 is.2 ∙ is.3)) is.4;
+    } in
+    follows_same old new b (λ a. IsUseFrom uses link a b) (λ a. IsUse uses a b) use_of from_use follows
