@@ -1,5 +1,5 @@
 -- A whole search finds the atoms that reach a start, and its edges join them as the rules do.
-use Rattle.std.proofs.Common.{◌≡◌, ◌<◌, ◌≤◌, ◌+◌, ◌⊎◌, ◌↔◌, ℕ, zero, suc, List, Some, option_map, nat_eq, Any, Contains, slice_get, get_or, inl, inr, refl, sym, ap, subst, ◌∙◌, length, arith}
+use Rattle.std.proofs.Common.{◌≡◌, ◌<◌, ◌≤◌, ◌+◌, ◌⊎◌, ◌↔◌, ℕ, zero, suc, List, ◌++◌, Some, Result, Ok, Err, IfOk, option_map, nat_eq, Any, Contains, slice_get, get_or, inl, inr, refl, sym, ap, subst, ◌∙◌, length, arith}
 use Rattle.std.specs.List.{IsDistinct, position}
 use Rattle.std.proofs.lemmas.Option.{same_Some, slice_get_within, slice_get-get_or}
 use Rattle.std.proofs.lemmas.List.{get_or_default}
@@ -7,10 +7,12 @@ use Rattle.ms_graph.specs.declared.edge.Edge.{Edge}
 use Rattle.ms_graph.specs.Components.{IsEdge, Leads, IsGraph, HasEndsBelow, IsNumbering, Walk as EdgeWalk, Reaches as EdgeReaches, ReachEachOther}
 use Rattle.ms_join.specs.declared.ground_rule.GroundRule.{GroundRule}
 use Rattle.ms_join.specs.Dependencies.{Depends, Walk, Reaches, AreTogether}
+use Rattle.ms_cone.specs.declared.uses.Use.{Use}
+use Rattle.ms_cone.specs.Uses.{IsUse, Keeps}
 use Rattle.ms_cone.specs.Search.{Found, IsFound, HasEdge, LeadsBack, IsExplored}
 use Rattle.ms_cone.specs.Cones.{Numbered, number_of, IsCone}
 use Rattle.ms_cone.proofs.Members.{at_contains, contains_at, same_place, place_of, member_of}
-use Rattle.ms_cone.proofs.Walks.{reaches_self, reaches_more, reaches_through}
+use Rattle.ms_cone.proofs.Walks.{reaches_self, reaches_more, reaches_through, depends_cases, depends_left, depends_right}
 
 -- the relation that a search follows is the dependency of these rules
 pub record IsOf (Is : ℕ → ℕ → Type 0) (rules : List GroundRule) : Type 0 where
@@ -77,3 +79,56 @@ by_edges Is rules starts s (suc steps) i k a b of_rules explored found at_i at_k
         record { start = ap (λ (x : Edge). x.from) is; end = ap (λ (x : Edge). x.to) is ∙ to_k };
     } in
     record { steps = suc before.steps; walk = (edge.from, before.walk, last) }
+
+found_cone : (Is : ℕ → ℕ → Type 0) (rules : List GroundRule) (starts : List ℕ) (s : Found) (numbers : List ℕ) → IsOf Is rules → IsExplored Is starts s (length s.members) → IsFound s → IsNumbering (length s.members) s.edges numbers → IsCone rules starts (record { members = s.members; numbers = numbers })
+found_cone Is rules starts s numbers of_rules explored found numbering =
+    let cone : Numbered = record { members = s.members; numbers = numbers } in
+    record {
+      members = λ a. (
+        λ here. reaches_start Is rules starts s (length s.members) (length s.members) here.0 a of_rules explored here.1 (at_contains s.members a here),
+        λ reaches. is_member Is rules starts s reaches.4.steps a reaches.1 of_rules explored (explored.begun reaches.1 (reaches.0, reaches.2, reaches.3)) reaches.4.walk,
+      );
+      components = λ a b n is_a.
+        let at_a = member_of cone a n is_a in
+        let i = at_a.place in
+        (
+          λ is_b. let at_b = member_of cone b n is_b in
+            let k = at_b.place in
+            let each : ReachEachOther s.edges i k = (numbering.components i k at_a.within at_b.within).0 (at_a.number ∙ sym at_b.number) in
+            record {
+              forth = by_rules Is rules starts s (length s.members) each.forth.steps i k a b of_rules explored found at_a.member at_b.member each.forth.walk;
+              back = by_rules Is rules starts s (length s.members) each.back.steps k i b a of_rules explored found at_b.member at_a.member each.back.walk;
+            },
+          λ together.
+            let there = is_member Is rules starts s together.back.steps b a of_rules explored (contains_at s.members i a at_a.member) together.back.walk in
+            let k = there.0 in
+            let at_k = at_contains s.members b there in
+            let each : ReachEachOther s.edges i k = record {
+              forth = by_edges Is rules starts s together.forth.steps i k a b of_rules explored found at_a.member at_k together.forth.walk;
+              back = by_edges Is rules starts s together.back.steps k i b a of_rules explored found at_k at_a.member together.back.walk;
+            } in
+            let same : get_or numbers i 0 ≡ get_or numbers k 0 = (numbering.components i k at_a.within there.1).1 each in
+            ap (option_map (λ (j : ℕ). get_or numbers j 0)) (place_of s.members k b found.once at_k) ∙ ap Some (sym same ∙ at_a.number),
+        );
+    }
+
+-- the members of a whole search with the numbers of their components are a cone
+pub is_cone : (old_uses new_uses : List Use) (old new : List GroundRule) (starts : List ℕ) (s : Found) (cone : Numbered) → Keeps old_uses old → Keeps new_uses new → IsExplored (λ a b. IsUse old_uses a b ⊎ IsUse new_uses a b) starts s (length s.members) → IsFound s → cone.members ≡ s.members → IsNumbering (length s.members) s.edges cone.numbers → IsCone (old ++ new) starts cone
+is_cone old_uses new_uses old new starts s cone keeps_old keeps_new explored found members numbering =
+    let of_rules : IsOf (λ a b. IsUse old_uses a b ⊎ IsUse new_uses a b) (old ++ new) = record {
+      each = λ a b depends. elim (depends_cases old new a b depends) [
+        | inl by_old ↦ inl (keeps_old.each a b by_old)
+        | inr by_new ↦ inr (keeps_new.each a b by_new)
+      ];
+      only = λ a b either. elim either [
+        | inl by_old ↦ depends_left old new a b (keeps_old.only a b by_old)
+        | inr by_new ↦ depends_right old new a b (keeps_new.only a b by_new)
+      ];
+    } in
+    subst (λ (ms : List ℕ). IsCone (old ++ new) starts (record { members = ms; numbers = cone.numbers })) (sym members)
+    (found_cone (λ a b. IsUse old_uses a b ⊎ IsUse new_uses a b) (old ++ new) starts s cone.numbers of_rules explored found numbering)
+
+-- a fact of a result that follows from two others
+pub if_ok_both : {A E : Type 0} (r : Result A E) (P Q R : A → Type 0) → ((a : A) → P a → Q a → R a) → IfOk r P → IfOk r Q → IfOk r R
+if_ok_both (Ok a) P Q R so p q = so a p q
+if_ok_both (Err e) P Q R so p q = q

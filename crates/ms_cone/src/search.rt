@@ -1,7 +1,7 @@
 // The search backwards for the atoms that reach given ones.
 ghost use Rattle.std.specs.Prelude.{◌≡◌, ◌<◌, ◌⊎◌, ℕ, All, length, slice_get, Some, IfOk, OnOk};
 ghost use Rattle.ms_cone.specs.Uses.{IsUse, HaveHeadsBelow};
-ghost use Rattle.ms_cone.specs.Search.{Enters, Follows, IsExplored, IsStart};
+ghost use Rattle.ms_cone.specs.Search.{Enters, Follows, IsExplored, IsFound, IsStart};
 
 use crate::uses::Dependencies;
 use indexmap::IndexSet;
@@ -118,7 +118,8 @@ impl Search {
         requires old { HaveHeadsBelow atoms old.now }
         requires new { HaveHeadsBelow atoms new.now }
         requires starts { All (λ a. a < atoms) starts.now }
-        ensures { IfOk result (λ s. IsExplored (λ a b. IsUse old.now a b ⊎ IsUse new.now a b) starts.now s (length s.members)) }
+        ensures found { IfOk result IsFound }
+        ensures explored { IfOk result (λ s. IsExplored (λ a b. IsUse old.now a b ⊎ IsUse new.now a b) starts.now s (length s.members)) }
     {
         let mut search = Search::new(alloc, atoms, starts)?;
         let mut place = 0;
