@@ -9,7 +9,7 @@ use Rattle.ms_join.specs.declared.ground_rule.GroundRule.{GroundRule}
 use Rattle.ms_join.specs.Dependencies.{Depends, Walk, Reaches, AreTogether}
 use Rattle.ms_cone.specs.declared.uses.Use.{Use}
 use Rattle.ms_cone.specs.Uses.{IsUse, Keeps}
-use Rattle.ms_cone.specs.Search.{Found, IsFound, HasEdge, LeadsBack, IsExplored}
+use Rattle.ms_cone.specs.Search.{Found, IsFound, HasEdge, LeadsBack, IsExplored, AreNumbered}
 use Rattle.ms_cone.specs.Cones.{Numbered, number_of, IsCone}
 use Rattle.ms_cone.proofs.Members.{at_contains, contains_at, same_place, place_of, member_of}
 use Rattle.ms_cone.proofs.Walks.{reaches_self, reaches_more, reaches_through, depends_cases, depends_left, depends_right}
@@ -113,8 +113,8 @@ found_cone Is rules starts s numbers of_rules explored found numbering =
     }
 
 -- the members of a whole search with the numbers of their components are a cone
-pub is_cone : (old_uses new_uses : List Use) (old new : List GroundRule) (starts : List ℕ) (s : Found) (cone : Numbered) → Keeps old_uses old → Keeps new_uses new → IsExplored (λ a b. IsUse old_uses a b ⊎ IsUse new_uses a b) starts s (length s.members) → IsFound s → cone.members ≡ s.members → IsNumbering (length s.members) s.edges cone.numbers → IsCone (old ++ new) starts cone
-is_cone old_uses new_uses old new starts s cone keeps_old keeps_new explored found members numbering =
+pub is_cone : (old_uses new_uses : List Use) (old new : List GroundRule) (starts : List ℕ) (s : Found) (cone : Numbered) → Keeps old_uses old → Keeps new_uses new → IsExplored (λ a b. IsUse old_uses a b ⊎ IsUse new_uses a b) starts s (length s.members) → IsFound s → AreNumbered s cone → IsCone (old ++ new) starts cone
+is_cone old_uses new_uses old new starts s cone keeps_old keeps_new explored found numbered =
     let of_rules : IsOf (λ a b. IsUse old_uses a b ⊎ IsUse new_uses a b) (old ++ new) = record {
       each = λ a b depends. elim (depends_cases old new a b depends) [
         | inl by_old ↦ inl (keeps_old.each a b by_old)
@@ -125,10 +125,5 @@ is_cone old_uses new_uses old new starts s cone keeps_old keeps_new explored fou
         | inr by_new ↦ depends_right old new a b (keeps_new.only a b by_new)
       ];
     } in
-    subst (λ (ms : List ℕ). IsCone (old ++ new) starts (record { members = ms; numbers = cone.numbers })) (sym members)
-    (found_cone (λ a b. IsUse old_uses a b ⊎ IsUse new_uses a b) (old ++ new) starts s cone.numbers of_rules explored found numbering)
-
--- a fact of a result that follows from two others
-pub if_ok_both : {A E : Type 0} (r : Result A E) (P Q R : A → Type 0) → ((a : A) → P a → Q a → R a) → IfOk r P → IfOk r Q → IfOk r R
-if_ok_both (Ok a) P Q R so p q = so a p q
-if_ok_both (Err e) P Q R so p q = q
+    subst (λ (ms : List ℕ). IsCone (old ++ new) starts (record { members = ms; numbers = cone.numbers })) (sym numbered.members)
+    (found_cone (λ a b. IsUse old_uses a b ⊎ IsUse new_uses a b) (old ++ new) starts s cone.numbers of_rules explored found numbered.numbers)

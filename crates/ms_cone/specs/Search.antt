@@ -2,7 +2,8 @@
 use Rattle.std.specs.Prelude.{ℕ, ◌≡◌, ◌^◌, ◌<◌, ◌≤◌, ◌⊎◌, nat_eq, List, [], Some, All, Contains, length, slice_get}
 use Rattle.std.specs.List.{IsDistinct}
 use Rattle.ms_graph.specs.declared.edge.Edge.{Edge}
-use Rattle.ms_graph.specs.Components.{IsGraph}
+use Rattle.ms_graph.specs.Components.{IsGraph, IsNumbering}
+use Rattle.ms_cone.specs.Cones.{Numbered}
 
 -- The number of atoms of the base, the atoms that were found so far, and edges between their places.
 pub record Found : Type 0 where
@@ -68,3 +69,8 @@ pub record IsExplored (Is : ℕ → ℕ → Type 0) (starts : List ℕ) (s : Fou
   pub origin : (i a : ℕ) → slice_get s.members i ≡ Some a → Contains starts a ⊎ LeadsBack Is s.members i a
   pub sound : (a b : ℕ) → HasEdge s a b → Is a b
   pub whole : (i b a : ℕ) → i < count → slice_get s.members i ≡ Some b → Is a b → HasEdge s a b
+
+-- The members of a search with the numbers of the components that its edges join.
+pub record AreNumbered (s : Found) (cone : Numbered) : Type 0 where
+  pub members : cone.members ≡ s.members
+  pub numbers : IsNumbering (length s.members) s.edges cone.numbers

@@ -2,7 +2,7 @@
 ghost use Rattle.std.specs.Prelude.{◌≡◌, ◌<◌, ◌++◌, ℕ, List, All, length, slice_get, slice_index, Some, IfOk};
 ghost use Rattle.ms_join.specs.declared.ground_rule.GroundRule.{GroundRule};
 ghost use Rattle.ms_join.specs.AnswerSets.{IsRuleOver};
-ghost use Rattle.ms_graph.specs.Components.{IsNumbering};
+ghost use Rattle.ms_cone.specs.Search.{AreNumbered};
 ghost use Rattle.ms_cone.specs.Uses.{Keeps, HaveHeadsBelow};
 ghost use Rattle.ms_cone.specs.Cones.{IsCone, number_of};
 
@@ -57,8 +57,7 @@ impl Cone {
 
     /// The members of a search with the numbers of their components.
     fn numbered(alloc: Global, search: Search) -> Result<Cone, OutOfMemory>
-        ensures members { IfOk result (λ cone. cone.members ≡ search.members) }
-        ensures numbers { IfOk result (λ cone. IsNumbering (length search.members) search.edges cone.numbers) }
+        ensures { IfOk result (AreNumbered search) }
     {
         let count = search.members.len() as u32;
         let numbers = components(alloc, count, &search.edges)?;

@@ -10,3 +10,6 @@ pub use cone::Cone;
 pub use ms_base::atom_id::AtomId;
 pub use ms_base::memory::OutOfMemory;
 pub use uses::{Dependencies, Use};
+
+#[cfg(test)]
+mod tests;
