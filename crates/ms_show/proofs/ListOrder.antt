@@ -1,7 +1,8 @@
 -- Lists after a sort by keys, and lists side by side.
-use Rattle.std.proofs.Common.{◌≡◌, ◌+◌, ◌<◌, ℕ, List, [], ◌∷◌, length, map, subst, arith}
+use Rattle.std.proofs.Common.{◌+◌, ◌<◌, List, [], ◌∷◌, length, map, subst, arith}
 use Rattle.std.proofs.lemmas.List.{get_or-map, length-map}
-use Rattle.std.specs.List.{AllZip}
+use Rattle.std.specs.List.{All, AllZip}
+use Rattle.std.proofs.lemmas.List.Elements.{All-nil, All-cons}
 use Rattle.std.specs.List.Sorted.{IsSorted, IsSortedByKey}
 use Rattle.std.specs.declared.cmp.Ordering.{Ordering}
 
@@ -17,3 +18,10 @@ AllZip-map f S R each [] [] all = tt
 AllZip-map f S R each [] (y ∷ ys) all = absurd all
 AllZip-map f S R each (x ∷ xs) [] all = absurd all
 AllZip-map f S R each (x ∷ xs) (y ∷ ys) all = (each x y all.0, AllZip-map f S R each xs ys all.1)
+
+-- what holds at each second element holds of all of them
+pub All-from_zip : {A B : Type 0} (S : A → B → Type 0) (P : B → Type 0) → ((a : A) (b : B) → S a b → P b) → (xs : List A) (ys : List B) → AllZip S xs ys → All P ys
+All-from_zip S P each [] [] all = All-nil P
+All-from_zip S P each [] (y ∷ ys) all = absurd all
+All-from_zip S P each (x ∷ xs) [] all = absurd all
+All-from_zip S P each (x ∷ xs) (y ∷ ys) all = All-cons P y ys (each x y all.0) (All-from_zip S P each xs ys all.1)

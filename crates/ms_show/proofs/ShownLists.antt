@@ -1,11 +1,14 @@
 -- The names of the shown atoms of a set, in term order, are its shown list.
-use Rattle.std.proofs.Common.{◌≡◌, ℕ, ◌+◌, ◌<◌, ◌∙◌, suc, Bool, true, IsTrue, List, [], ◌∷◌, ◌++◌, All, filter, map, take, length, get_or, ap, sym, subst, arith, Some}
-use Rattle.std.specs.List.{AllZip, Contains, slice_get}
-use Rattle.std.proofs.lemmas.List.{get_or_default, get_or-map, length-map, take_more, map-append}
+use Rattle.std.proofs.Common.{◌≡◌, ℕ, ◌+◌, ◌<◌, ◌∙◌, Bool, true, IsTrue, List, [], ◌∷◌, ◌++◌, filter, map, take, length, get_or, ap, sym, subst, Some, false}
+use Rattle.std.specs.List.{Contains, slice_get}
+use Rattle.std.proofs.lemmas.Bool.{cond-true, cond-false}
+use Rattle.std.proofs.lemmas.List.{append-nil, get_or_default, get_or-map, length-map, take_more, map-append}
 use Rattle.std.proofs.lemmas.List.Elements.{Contains-get_or, All-filter, All-contains, filter-append}
-use Rattle.std.proofs.lemmas.Option.{slice_get-get_or, get_or_from_slice_get}
-use Rattle.ms_tree.specs.Tree.{Tree}
-use Rattle.ms_term.specs.Terms.{term_at}
+use Rattle.std.proofs.lemmas.Option.{slice_get-get_or, get_or_from_slice_get, none-some}
+use Rattle.ms_tree.specs.Tree.{Tree, number, text, function, tree_count}
+use Rattle.ms_core.specs.Texts.{Texts, shows}
+use Rattle.ms_machine.specs.Machine.{shows_atom}
+use Rattle.ms_term.specs.Terms.{term_at, name_in, arguments_in}
 use Rattle.ms_join.specs.AnswerSets.{IsAtomSet}
 use Rattle.ms_machine.specs.Listing.{HasAtom}
 use Rattle.ms_order.specs.TermOrder.{IsInTermOrder}
@@ -88,3 +91,24 @@ shown_more table shows base set i a here is =
     ap (shown_of table shows base) (take_more set i a here ∙ ap (λ b. take i set ++ b ∷ []) (sym is))
     ∙ ap (filter p) (map-append (name_of base) (take i set) (a ∷ []))
     ∙ filter-append p (map (name_of base) (take i set)) (map (name_of base) (a ∷ []))
+
+-- the name of one more atom that is shown, and one that isn't
+pub shown_kept : (table : List Tree) (shows : Tree → Bool) (base set : List ℕ) (i a n : ℕ) (old new : List ℕ) → i < length set → a ≡ get_or set i a → slice_get base a ≡ Some n → shows (term_at table n) ≡ true → old ≡ shown_of table shows base (take i set) → new ≡ old ++ n ∷ [] → new ≡ shown_of table shows base (take (i + 1) set)
+shown_kept table shows base set i a n old new here is named is_shown so_far more =
+    let same : name_of base a ≡ n = get_or_from_slice_get base a n 0 named in
+    let one : shown_of table shows base (a ∷ []) ≡ n ∷ [] = ap (λ m. filter (λ k. shows (term_at table k)) (m ∷ [])) same ∙ cond-true (shows (term_at table n)) (n ∷ []) [] is_shown in
+    more ∙ ap (λ xs. xs ++ n ∷ []) so_far ∙ ap (λ xs. shown_of table shows base (take i set) ++ xs) (sym one) ∙ sym (shown_more table shows base set i a here is)
+
+pub shown_passed : (table : List Tree) (shows : Tree → Bool) (base set : List ℕ) (i a n : ℕ) (old new : List ℕ) → i < length set → a ≡ get_or set i a → slice_get base a ≡ Some n → shows (term_at table n) ≡ false → old ≡ shown_of table shows base (take i set) → new ≡ old → new ≡ shown_of table shows base (take (i + 1) set)
+shown_passed table shows base set i a n old new here is named hidden so_far same_list =
+    let same : name_of base a ≡ n = get_or_from_slice_get base a n 0 named in
+    let none : shown_of table shows base (a ∷ []) ≡ [] = ap (λ m. filter (λ k. shows (term_at table k)) (m ∷ [])) same ∙ cond-false (shows (term_at table n)) (n ∷ []) [] hidden in
+    same_list ∙ so_far ∙ sym (append-nil (shown_of table shows base (take i set))) ∙ ap (λ xs. shown_of table shows base (take i set) ++ xs) (sym none) ∙ sym (shown_more table shows base set i a here is)
+
+-- a function is shown by its name and the number of its arguments
+pub shows_named : (texts : Texts) (t : Tree) (name : List ℕ) (count : ℕ) → Some name ≡ name_in t → count ≡ tree_count (arguments_in t) → shows texts name count ≡ shows_atom texts t
+shows_named texts (number n) name count is counted = absurd (none-some name (sym is))
+shows_named texts (text s) name count is counted = absurd (none-some name (sym is))
+shows_named texts (function f ts) name count is counted =
+    let same : name ≡ f = cc in
+    ap (λ x. shows texts x count) same ∙ ap (λ k. shows texts f k) counted

@@ -16,9 +16,9 @@ use ms_base::seq::Seq;
 use ms_join::ground_module::TermIds;
 use ms_machine::reply::Shown;
 use ms_order::{compare_lists, in_term_order};
-use ms_parts::Parts;
 use ms_rules::AtomSet;
 use ms_term::{TermId, Terms};
+use ms_parts::Parts;
 use std::alloc::Global;
 
 /// Whether the texts show the atom.
@@ -113,11 +113,11 @@ pub fn listing(
     parts: &Parts,
     sets: &[AtomSet],
 ) -> Result<Shown, OutOfMemory>
-    requires base { AreIn (trees terms.now) base.now }
+    requires named { AreIn (trees terms.now) base.now }
     requires over_base { All (IsAtomSet (length base.now)) sets.now }
-    ensures listed { IfOk result (λ shown. IsListing (shows_atom parts.now)
+    ensures listing { IfOk result (λ shown. IsListing (shows_atom parts.now)
         (map (term_at (trees terms.now)) base.now) sets.now (map (map (term_at (trees terms.now))) shown)) }
-    ensures within { IfOk result (All (AreIn (trees terms.now))) }
+    ensures named { IfOk result (All (AreIn (trees terms.now))) }
 {
     // different names have different terms
     let _ = terms.len();
