@@ -1,5 +1,5 @@
 -- Uses that come to others.
-use Rattle.std.proofs.Common.{◌≡◌, ◌<◌, ◌⊎◌, ℕ, List, [], ◌∷◌, ◌++◌, Option, Some, All, Any, Contains, inl, inr, refl, sym, ap, subst, ◌∙◌, length, None, IsSomeAnd, get_or, arith}
+use Rattle.std.proofs.Common.{◌≡◌, ◌<◌, ◌⊎◌, ℕ, List, [], ◌∷◌, ◌++◌, Option, Some, All, Contains, inl, inr, refl, sym, ap, subst, ◌∙◌, IsSomeAnd, get_or, arith}
 use Rattle.std.proofs.lemmas.List.Elements.{Contains-append_cases, Contains-append_left, Contains-push, Contains-push_cases, All-contains}
 use Rattle.std.proofs.lemmas.List.Quantifiers.{Any-push}
 use Rattle.std.proofs.lemmas.List.{get_or_default}
@@ -11,7 +11,7 @@ use Rattle.ms_join.specs.AnswerSets.{IsRuleOver, HasHead}
 use Rattle.ms_join.specs.Dependencies.{Depends}
 use Rattle.ms_cone.specs.declared.uses.Use.{Use}
 use Rattle.ms_cone.specs.Uses.{IsFor, IsUse, Keeps, AddsUses, HaveHeadsBelow}
-use Rattle.ms_cone.proofs.Walks.{depends_cases, depends_left, depends_right}
+use Rattle.ms_cone.proofs.Walks.{depends_left}
 
 kept_push : (uses : List Use) (u : Use) (a b : ℕ) → IsUse uses a b → IsUse (uses ++ u ∷ []) a b
 kept_push uses u a b (k, found, within, at, is) =

@@ -1,5 +1,5 @@
 -- A loop across modules goes through an atom of the old base that the new module heads.
-use Rattle.std.proofs.Common.{◌≡◌, ◌<◌, ◌≤◌, ◌⊎◌, ◌+◌, ℕ, zero, suc, List, ◌++◌, Contains, Some, IfSome, inl, inr, refl, sym, subst, arith}
+use Rattle.std.proofs.Common.{◌<◌, ◌⊎◌, ℕ, zero, suc, ◌++◌, Contains, IfSome, inl, inr, subst}
 use Rattle.std.proofs.lemmas.List.Elements.{All-contains}
 use Rattle.ms_join.specs.declared.ground_rule.GroundRule.{GroundRule}
 use Rattle.ms_join.specs.declared.ground_module.GroundModule.{GroundModule}
@@ -7,7 +7,7 @@ use Rattle.ms_join.specs.AnswerSets.{IsRuleOver}
 use Rattle.ms_join.specs.Modules.{Join, IsJoin, IsWellFormed}
 use Rattle.ms_join.specs.Dependencies.{Depends, Walk, Reaches}
 use Rattle.ms_join.specs.Composability.{LoopsWith, IsInLoop}
-use Rattle.ms_cone.proofs.Walks.{reaches_self, reaches_more, reaches_through, depends_cases, depends_right}
+use Rattle.ms_cone.proofs.Walks.{reaches_self, reaches_more, reaches_through, depends_cases}
 
 -- a head of the module in the old base
 pub record IsOldHead (j : Join) (m : GroundModule) (a : ℕ) : Type 0 where
@@ -53,11 +53,11 @@ walk_old j m is formed (suc steps) a b old walk =
       | inr stays ↦ elim (depends_cases j.rules m.rules c b walk.2) [
         | inl by_old ↦ inr (record { within = old_below j is c b by_old; reaches = reaches_more rules a c b stays.reaches walk.2 })
         | inr by_new ↦ inl (record {
-            through = c;
-            is_head = record { head = new_head j m formed c b by_new; within = stays.within };
-            forth = stays.reaches;
-            on = reaches_more rules c c b (reaches_self rules c) walk.2;
-          })
+          through = c;
+          is_head = record { head = new_head j m formed c b by_new; within = stays.within };
+          forth = stays.reaches;
+          on = reaches_more rules c c b (reaches_self rules c) walk.2;
+        })
       ]
     ]
 
@@ -72,13 +72,13 @@ loop_reaches_old_head j m a b is formed head loops =
     let back = loops.together.back in
     elim (walk_old j m is formed back.steps b a loops.output.within back.walk) [
       | inl passes ↦ record {
-          new = record { through = passes.through; is_head = passes.is_head; reaches = reaches_through rules a b passes.through loops.together.forth passes.forth };
-          old = record { through = passes.through; is_head = passes.is_head; reaches = passes.forth };
-        }
+        new = record { through = passes.through; is_head = passes.is_head; reaches = reaches_through rules a b passes.through loops.together.forth passes.forth };
+        old = record { through = passes.through; is_head = passes.is_head; reaches = passes.forth };
+      }
       | inr stays ↦ record {
-          new = record { through = a; is_head = record { head = head; within = stays.within }; reaches = reaches_self rules a };
-          old = record { through = a; is_head = record { head = head; within = stays.within }; reaches = back };
-        }
+        new = record { through = a; is_head = record { head = head; within = stays.within }; reaches = reaches_self rules a };
+        old = record { through = a; is_head = record { head = head; within = stays.within }; reaches = back };
+      }
     ]
 
 -- where no head is in the old base there is no loop across modules

@@ -1,5 +1,5 @@
 -- An atom comes to the members of a search.
-use Rattle.std.proofs.Common.{◌≡◌, ◌<◌, ◌≤◌, ◌+◌, ◌⊎◌, ℕ, zero, suc, List, [], ◌∷◌, ◌++◌, Some, Bool, true, false, if◌then◌else◌, All, Contains, slice_get, get_or, nat_eq, inl, inr, refl, sym, ap, subst, ◌∙◌, length, length-append, arith}
+use Rattle.std.proofs.Common.{◌≡◌, ◌<◌, ◌≤◌, ◌⊎◌, ℕ, zero, suc, List, [], ◌∷◌, ◌++◌, Some, Bool, true, false, if◌then◌else◌, All, Contains, slice_get, get_or, nat_eq, inl, inr, refl, sym, ap, subst, ◌∙◌, length, arith}
 use Rattle.std.specs.List.{list_any, IsDistinct}
 use Rattle.std.proofs.lemmas.Bool.Decides.{Decides-eqb}
 use Rattle.std.proofs.lemmas.Bool.{cases_lt}
@@ -8,8 +8,7 @@ use Rattle.std.proofs.lemmas.Map.Views.{Contains-from_any}
 use Rattle.std.proofs.lemmas.List.Elements.{All-weaker, All-push, All-contains, Contains-push, Contains-push_cases, Contains-append_left}
 use Rattle.std.proofs.lemmas.Map.Steps.{length-le_from_distinct_below}
 use Rattle.indexmap.specs.IndexSet.{insert_key}
-use Rattle.ms_graph.specs.declared.edge.Edge.{Edge}
-use Rattle.ms_graph.specs.Components.{IsGraph, HasEndsBelow}
+use Rattle.ms_graph.specs.Components.{HasEndsBelow}
 use Rattle.ms_cone.specs.Search.{Found, IsFound, IsStart, Grows, Enters}
 use Rattle.ms_cone.proofs.Members.{at_contains, contains_at}
 

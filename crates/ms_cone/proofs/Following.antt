@@ -1,15 +1,15 @@
 -- The atoms that lead to a member are found.
-use Rattle.std.proofs.Common.{◌≡◌, ◌<◌, ◌≤◌, ◌+◌, ◌-◌, ◌⊎◌, ℕ, List, [], ◌∷◌, ◌++◌, Some, All, Contains, slice_get, get_or, inl, inr, refl, sym, ap, subst, ◌∙◌, length, arith}
+use Rattle.std.proofs.Common.{◌≡◌, ◌<◌, ◌≤◌, ◌-◌, ◌⊎◌, ℕ, List, [], ◌∷◌, ◌++◌, Some, Contains, slice_get, get_or, inl, inr, refl, sym, ap, subst, ◌∙◌, length, arith}
 use Rattle.std.proofs.lemmas.Bool.{cases_lt}
 use Rattle.std.proofs.lemmas.List.{get_or_default}
 use Rattle.std.proofs.lemmas.Option.{same_Some}
 use Rattle.std.proofs.lemmas.List.Elements.{All-contains, Contains-push, Contains-push_cases, Contains-append_left}
 use Rattle.ms_graph.specs.declared.edge.Edge.{Edge}
-use Rattle.ms_graph.specs.Components.{IsGraph, HasEndsBelow}
+use Rattle.ms_graph.specs.Components.{HasEndsBelow}
 use Rattle.ms_cone.specs.declared.uses.Use.{Use}
 use Rattle.ms_cone.specs.Uses.{IsFor, IsUse}
 use Rattle.ms_cone.specs.Chains.{IsLast, IsUseFrom}
-use Rattle.ms_cone.specs.Search.{Found, Grows, Enters, HasEdge, Follows}
+use Rattle.ms_cone.specs.Search.{Found, Grows, Enters, Follows}
 use Rattle.ms_cone.proofs.Entering.{grows_longer}
 
 old_place : (old new : List ℕ) (Is : ℕ → Type 0) (i a : ℕ) → Grows old new Is → i < length old → slice_get new i ≡ Some a → slice_get old i ≡ Some a

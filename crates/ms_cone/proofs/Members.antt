@@ -1,5 +1,5 @@
 -- The places of members, and the numbers of their components.
-use Rattle.std.proofs.Common.{◌≡◌, ◌<◌, ◌^◌, ℕ, zero, suc, List, Option, Some, None, true, false, nat_eq, nat_lt, length, get_or, slice_get, refl, sym, ap, subst, ◌∙◌, arith, Contains, inl, inr, ◌⊎◌}
+use Rattle.std.proofs.Common.{◌≡◌, ◌<◌, ℕ, List, Option, Some, None, nat_eq, nat_lt, length, get_or, slice_get, refl, sym, ap, ◌∙◌, arith, Contains, inl, inr}
 use Rattle.std.specs.List.{position, position_or_len, IsDistinct}
 use Rattle.std.specs.Option.{option_map}
 use Rattle.std.proofs.lemmas.Bool.{cases_lt, cond-true, eqb-false, ne_eqb, lt-ltb}
@@ -58,9 +58,9 @@ place_of atoms i a once at =
     let within = slice_get_within atoms i a at in
     let is = get_or_from_slice_get atoms i a a at in
     let first : position_or_len (nat_eq a) atoms ≡ i =
-        position_or_len_is (nat_eq a) atoms i a (omega (arith, within))
-        (λ k before. ne_eqb a (get_or atoms k a) (λ same. eqb-false (get_or atoms k a) (get_or atoms i a) (apart_from_distinct nat_eq atoms k i a once before within) (sym same ∙ sym is)))
-        (λ inside. (Decides-eqb a (get_or atoms i a)).1 (sym is)) in
+    position_or_len_is (nat_eq a) atoms i a (omega (arith, within))
+    (λ k before. ne_eqb a (get_or atoms k a) (λ same. eqb-false (get_or atoms k a) (get_or atoms i a) (apart_from_distinct nat_eq atoms k i a once before within) (sym same ∙ sym is)))
+    (λ inside. (Decides-eqb a (get_or atoms i a)).1 (sym is)) in
     rw first (cond-true (nat_lt i (length atoms)) (Some i) None (lt-ltb i (length atoms) within))
 
 -- the number of the member in a place

@@ -1,16 +1,15 @@
 -- A whole search finds the atoms that reach a start, and its edges join them as the rules do.
-use Rattle.std.proofs.Common.{◌≡◌, ◌<◌, ◌≤◌, ◌+◌, ◌⊎◌, ◌↔◌, ℕ, zero, suc, List, ◌++◌, Some, Result, Ok, Err, IfOk, option_map, nat_eq, Any, Contains, slice_get, get_or, inl, inr, refl, sym, ap, subst, ◌∙◌, length, arith}
-use Rattle.std.specs.List.{IsDistinct, position}
+use Rattle.std.proofs.Common.{◌≡◌, ◌<◌, ◌⊎◌, ℕ, zero, suc, List, ◌++◌, Some, option_map, Any, Contains, slice_get, get_or, inl, inr, sym, ap, subst, ◌∙◌, length, arith}
 use Rattle.std.proofs.lemmas.Option.{same_Some, slice_get_within, slice_get-get_or}
 use Rattle.std.proofs.lemmas.List.{get_or_default}
 use Rattle.ms_graph.specs.declared.edge.Edge.{Edge}
-use Rattle.ms_graph.specs.Components.{IsEdge, Leads, IsGraph, HasEndsBelow, IsNumbering, Walk as EdgeWalk, Reaches as EdgeReaches, ReachEachOther}
+use Rattle.ms_graph.specs.Components.{IsEdge, Leads, HasEndsBelow, IsNumbering, Walk as EdgeWalk, Reaches as EdgeReaches, ReachEachOther}
 use Rattle.ms_join.specs.declared.ground_rule.GroundRule.{GroundRule}
-use Rattle.ms_join.specs.Dependencies.{Depends, Walk, Reaches, AreTogether}
+use Rattle.ms_join.specs.Dependencies.{Depends, Walk, Reaches}
 use Rattle.ms_cone.specs.declared.uses.Use.{Use}
 use Rattle.ms_cone.specs.Uses.{IsUse, Keeps}
-use Rattle.ms_cone.specs.Search.{Found, IsFound, HasEdge, LeadsBack, IsExplored, AreNumbered}
-use Rattle.ms_cone.specs.Cones.{Numbered, number_of, IsCone}
+use Rattle.ms_cone.specs.Search.{Found, IsFound, HasEdge, IsExplored, AreNumbered}
+use Rattle.ms_cone.specs.Cones.{Numbered, IsCone}
 use Rattle.ms_cone.proofs.Members.{at_contains, contains_at, same_place, place_of, member_of}
 use Rattle.ms_cone.proofs.Walks.{reaches_self, reaches_more, reaches_through, depends_cases, depends_left, depends_right}
 
@@ -76,7 +75,7 @@ by_edges Is rules starts s (suc steps) i k a b of_rules explored found at_i at_k
       place = stored.0;
       within = stored.1;
       leads = λ d. let is : get_or s.edges stored.0 d ≡ e = get_or_default s.edges stored.0 d e stored.1 ∙ stored.2 in
-        record { start = ap (λ (x : Edge). x.from) is; end = ap (λ (x : Edge). x.to) is ∙ to_k };
+          record { start = ap (λ (x : Edge). x.from) is; end = ap (λ (x : Edge). x.to) is ∙ to_k };
     } in
     record { steps = suc before.steps; walk = (edge.from, before.walk, last) }
 
@@ -89,27 +88,26 @@ found_cone Is rules starts s numbers of_rules explored found numbering =
         λ reaches. is_member Is rules starts s reaches.4.steps a reaches.1 of_rules explored (explored.begun reaches.1 (reaches.0, reaches.2, reaches.3)) reaches.4.walk,
       );
       components = λ a b n is_a.
-        let at_a = member_of cone a n is_a in
-        let i = at_a.place in
-        (
-          λ is_b. let at_b = member_of cone b n is_b in
-            let k = at_b.place in
-            let each : ReachEachOther s.edges i k = (numbering.components i k at_a.within at_b.within).0 (at_a.number ∙ sym at_b.number) in
-            record {
-              forth = by_rules Is rules starts s (length s.members) each.forth.steps i k a b of_rules explored found at_a.member at_b.member each.forth.walk;
-              back = by_rules Is rules starts s (length s.members) each.back.steps k i b a of_rules explored found at_b.member at_a.member each.back.walk;
-            },
-          λ together.
-            let there = is_member Is rules starts s together.back.steps b a of_rules explored (contains_at s.members i a at_a.member) together.back.walk in
-            let k = there.0 in
-            let at_k = at_contains s.members b there in
-            let each : ReachEachOther s.edges i k = record {
-              forth = by_edges Is rules starts s together.forth.steps i k a b of_rules explored found at_a.member at_k together.forth.walk;
-              back = by_edges Is rules starts s together.back.steps k i b a of_rules explored found at_k at_a.member together.back.walk;
-            } in
-            let same : get_or numbers i 0 ≡ get_or numbers k 0 = (numbering.components i k at_a.within there.1).1 each in
-            ap (option_map (λ (j : ℕ). get_or numbers j 0)) (place_of s.members k b found.once at_k) ∙ ap Some (sym same ∙ at_a.number),
-        );
+          let at_a = member_of cone a n is_a in
+          let i = at_a.place in (
+            λ is_b. let at_b = member_of cone b n is_b in
+                let k = at_b.place in
+                let each : ReachEachOther s.edges i k = (numbering.components i k at_a.within at_b.within).0 (at_a.number ∙ sym at_b.number) in
+                record {
+                  forth = by_rules Is rules starts s (length s.members) each.forth.steps i k a b of_rules explored found at_a.member at_b.member each.forth.walk;
+                  back = by_rules Is rules starts s (length s.members) each.back.steps k i b a of_rules explored found at_b.member at_a.member each.back.walk;
+                },
+            λ together.
+                let there = is_member Is rules starts s together.back.steps b a of_rules explored (contains_at s.members i a at_a.member) together.back.walk in
+                let k = there.0 in
+                let at_k = at_contains s.members b there in
+                let each : ReachEachOther s.edges i k = record {
+                  forth = by_edges Is rules starts s together.forth.steps i k a b of_rules explored found at_a.member at_k together.forth.walk;
+                  back = by_edges Is rules starts s together.back.steps k i b a of_rules explored found at_k at_a.member together.back.walk;
+                } in
+                let same : get_or numbers i 0 ≡ get_or numbers k 0 = (numbering.components i k at_a.within there.1).1 each in
+                ap (option_map (λ (j : ℕ). get_or numbers j 0)) (place_of s.members k b found.once at_k) ∙ ap Some (sym same ∙ at_a.number),
+          );
     }
 
 -- the members of a whole search with the numbers of their components are a cone

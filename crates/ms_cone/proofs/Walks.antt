@@ -1,5 +1,5 @@
 -- Walks along the dependencies of rules.
-use Rattle.std.proofs.Common.{◌≡◌, ◌<◌, ◌⊎◌, ℕ, zero, suc, List, ◌++◌, Contains, Some, inl, inr, refl, sym, subst}
+use Rattle.std.proofs.Common.{◌⊎◌, ℕ, zero, suc, List, ◌++◌, Contains, inl, inr, refl, subst}
 use Rattle.std.proofs.lemmas.List.Elements.{Contains-append_cases, Contains-append_left, Contains-append_right}
 use Rattle.ms_join.specs.declared.ground_rule.GroundRule.{GroundRule}
 use Rattle.ms_join.specs.Dependencies.{Depends, Walk, Reaches}

@@ -32,27 +32,24 @@ fn atoms(alloc: Global, numbers: &[u32]) -> Result<AtomIds, OutOfMemory>
     Ok(atoms)
 }
 
-fn rule(alloc: Global, head: AtomId, atom: u32) -> Result<GroundRule, OutOfMemory>
-    requires { head < 6 }
+/// A rule with a head below six.
+fn rule(alloc: Global, head: u32, atom: u32) -> Result<GroundRule, OutOfMemory>
     ensures { IfOk result (IsRuleOver 6) }
 {
     Ok(GroundRule {
         kind: GroundKind::Normal,
-        head: Some(head),
+        head: Some(AtomId(head % 6)),
         pos: atoms(alloc, &[atom])?,
         neg: Seq::new(alloc),
     })
 }
 
-/// The rules whose heads are below six.
 fn rules(alloc: Global, pairs: &[(u32, u32)]) -> Result<GroundRules, OutOfMemory>
     ensures { IfOk result (All (IsRuleOver 6)) }
 {
     let mut rules = Seq::new(alloc);
     for (head, atom) in pairs {
-        if *head < 6 {
-            rules.push(rule(alloc, AtomId(*head), *atom)?)?;
-        }
+        rules.push(rule(alloc, *head, *atom)?)?;
     }
     Ok(rules)
 }
@@ -140,7 +137,11 @@ fn components_of_what_reaches(rt: HostRuntime) -> Result<(), Fail> {
     for row in &rows {
         let cone = cone_of(rt.alloc(), *row)?;
         for a in 0..6 {
-            assert!(rt; agrees(&cone, row.components, a), "{}: atom {a}", row.message);
+            assert!(rt;
+                agrees(&cone, row.components, a),
+                "{}: atom {a}",
+                row.message
+            );
         }
     }
     Ok(())

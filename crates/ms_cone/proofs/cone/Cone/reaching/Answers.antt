@@ -1,4 +1,4 @@
-use Rattle.std.proofs.Common.{◌≡◌, ◌++◌, List, [], length}
+use Rattle.std.proofs.Common.{◌++◌, List, []}
 use Rattle.ms_join.specs.declared.ground_rule.GroundRule.{GroundRule}
 use Rattle.std.proofs.lemmas.Result.{IfOk-weaker}
 use Rattle.ms_cone.specs.Search.{AreNumbered}
@@ -17,6 +17,6 @@ returns c =
     let new = c.args.new.now in
     let starts = c.args.starts.now in
     IfOk-weaker c.numbered.result (AreNumbered s)
-      (λ (cone : Numbered). (rules : List GroundRule) → Keeps c.args.old.now rules → IsCone (rules ++ new) starts cone)
-      (λ (cone : Numbered) numbered rules keeps. is_cone c.args.old.now c.add.new.self rules new starts s cone keeps (c.in_ok-add.ensures [] c.new-fresh.ensures) c.in_ok-search.ensures.explored c.in_ok-search.ensures.found numbered)
-      c.numbered.ensures
+    (λ (cone : Numbered). (rules : List GroundRule) → Keeps c.args.old.now rules → IsCone (rules ++ new) starts cone)
+    (λ (cone : Numbered) numbered rules keeps. is_cone c.args.old.now c.add.new.self rules new starts s cone keeps (c.in_ok-add.ensures [] c.new-fresh.ensures) c.in_ok-search.ensures.explored c.in_ok-search.ensures.found numbered)
+    c.numbered.ensures

@@ -1,4 +1,4 @@
-use Rattle.std.proofs.Common.{◌≡◌, ◌<◌, List, ◌++◌, ◌∷◌, [], length, subst, sym, arith}
+use Rattle.std.proofs.Common.{◌≡◌, List, subst, sym, arith}
 use Rattle.std.proofs.lemmas.Option.{slice_get_within}
 use Rattle.ms_graph.specs.declared.edge.Edge.{Edge}
 use Rattle.ms_cone.specs.Search.{Found, IsFound, Enters, Follows}

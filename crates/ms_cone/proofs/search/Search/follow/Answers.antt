@@ -1,4 +1,4 @@
-use Rattle.std.proofs.Common.{◌≡◌, ◌<◌, ◌-◌, ◌+◌, ◌≤◌, length, get_or, subst, sym, ap, ◌∙◌, arith}
+use Rattle.std.proofs.Common.{◌≡◌, ◌-◌, ap, ◌∙◌, arith}
 use Rattle.std.proofs.lemmas.Option.{slice_get_within}
 use Rattle.ms_cone.specs.declared.uses.Use.{Use}
 use Rattle.ms_cone.proofs.Following.{follows_last, follows_use, follows_uses}
@@ -30,7 +30,7 @@ loop-link-preserved c =
       within = omega (arith, less, inside);
       found = λ k d is. before.found k d is ∙ is_atom;
       follows = follows_use uses c.args.self.now mid c.arrive.new.self c.args.atom link found some inside c.use_at-found.ensures.at is_atom before c.loop-link.invariant.follows
-        (c.in_ok-arrive.ensures c.args.atom (c.loop-link.invariant.follows.members.kept c.args.place c.args.atom c.requires.member));
+          (c.in_ok-arrive.ensures c.args.atom (c.loop-link.invariant.follows.members.kept c.args.place c.args.atom c.requires.member));
     }
 
 pub returns : goal.returns

@@ -1,9 +1,9 @@
-use Rattle.std.proofs.Common.{◌≡◌, ◌<◌, ◌-◌, ◌+◌, ◌≤◌, ◌⊎◌, ℕ, length, get_or, subst, sym, ap, ◌∙◌, arith}
+use Rattle.std.proofs.Common.{◌≡◌, ◌<◌, ◌⊎◌, ℕ, length, get_or, subst, ap, ◌∙◌, arith}
 use Rattle.std.proofs.lemmas.Option.{slice_get-get_or}
 use Rattle.ms_cone.specs.Uses.{IsUse}
 use Rattle.ms_cone.specs.Search.{Found, IsExplored}
 use Rattle.ms_cone.proofs.Entering.{grows_longer}
-use Rattle.ms_cone.proofs.Exploring.{explored_start, explored_more}
+use Rattle.ms_cone.proofs.Exploring.{explored_more}
 use Rattle.ms_cone.proofs.search.Search.whole.Goals as goal
 
 pub loop-place-preserved : goal.loop-place-preserved

@@ -1,4 +1,4 @@
-use Rattle.std.proofs.Common.{◌≡◌, ◌<◌, ◌+◌, ℕ, Option, ◌++◌, ◌∷◌, [], List, Some, subst, sym, ap, ◌∙◌, refl, length, take, get_or, arith}
+use Rattle.std.proofs.Common.{◌≡◌, ◌<◌, ◌+◌, ℕ, Option, ◌++◌, ◌∷◌, [], List, subst, sym, ap, ◌∙◌, length, take, get_or}
 use Rattle.std.proofs.lemmas.List.{take_more}
 use Rattle.ms_cone.specs.Uses.{AddsUses}
 use Rattle.ms_cone.proofs.Adding.{adds_more}

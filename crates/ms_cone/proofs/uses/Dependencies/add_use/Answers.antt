@@ -1,4 +1,4 @@
-use Rattle.std.proofs.Common.{◌≡◌, ◌++◌, ◌∷◌, [], List, Some, subst, sym, ap, ◌∙◌, refl}
+use Rattle.std.proofs.Common.{◌∷◌, [], List, Some, subst, sym, refl}
 use Rattle.ms_cone.specs.declared.uses.Use.{Use}
 use Rattle.ms_cone.specs.Uses.{AddsUses}
 use Rattle.ms_cone.proofs.Adding.{adds_one}
