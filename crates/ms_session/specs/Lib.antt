@@ -1,3 +1,2 @@
-pub mod ShownLists
-pub mod Sound
-pub mod ReadText
+pub mod Kept
+pub mod Steps

@@ -1,3 +1,0 @@
-mod Filtered
-mod Fronts
-mod ShownLists
