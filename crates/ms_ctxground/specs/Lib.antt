@@ -1,0 +1,4 @@
+pub mod Numbering
+pub mod LeftRules
+pub mod NewAtoms
+pub mod Growing

@@ -1,0 +1,9 @@
+// The ground module of core rules over a base.
+#![tactic(auto)]
+
+mod module;
+mod new_atoms;
+mod numbers;
+mod rule;
+
+pub use ms_term::{OutOfMemory, TermId, Terms};
