@@ -1,8 +1,10 @@
 pub mod TermOrder
 pub mod Front
-pub mod Numbers
+pub mod Numbered
 pub mod Rules
 pub mod SameRules
 pub mod Members
 pub mod NamedTerms
 pub mod Added
+pub mod RuleSets
+pub mod TermSort

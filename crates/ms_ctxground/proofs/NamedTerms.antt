@@ -16,7 +16,7 @@ use Rattle.ms_ctxground.specs.Numbering.{AreNumbersOf, IsNumberOfHead}
 use Rattle.ms_ctxground.specs.LeftRules.{IsLeftBy, MustLeave, AreAllLeft, AreLeftInOrder}
 use Rattle.ms_ctxground.specs.NewAtoms.{IsNamedBelow}
 use Rattle.ms_ctxground.proofs.Members.{Contains-map, Contains-from_map, Any-map, Any-from_map}
-use Rattle.ms_ctxground.proofs.Numbers.{some_and, from_some_and, Contains-from_slice_get}
+use Rattle.ms_ctxground.proofs.Numbered.{some_and, from_some_and, Contains-from_slice_get}
 
 module _ (table : List Tree) (different : AllDifferent table) where
   abbrev tree_of : ℕ → Tree
@@ -40,6 +40,12 @@ module _ (table : List Tree) (different : AllDifferent table) where
   all_terms : (names of : List ℕ) → All (Contains names) of → All (Contains (map tree_of names)) (map tree_of of)
   all_terms names of h = All-map (Contains (map tree_of names)) tree_of of (λ k d within. Contains-map tree_of names (get_or of k d) (h k d within))
 
+  back : (base names : List ℕ) → Below base → Below names → (a : ℕ) (o : Option ℕ) → slice_get base a ≡ o → IsSomeAnd (option_map tree_of (slice_get base a)) (Contains (map tree_of names)) → IsSomeAnd (slice_get base a) (Contains names)
+  back base names base_below below a None e h = absurd (subst (λ o. IsSomeAnd (option_map tree_of o) (Contains (map tree_of names))) e h)
+  back base names base_below below a (Some n) e h =
+      let within = All-contains (λ k. k < length table) base n base_below (Contains-from_slice_get base a n e) in
+      some_and (Contains names) (slice_get base a) n e (one_of_names names below n within (subst (λ o. IsSomeAnd (option_map tree_of o) (Contains (map tree_of names))) e h))
+
   pub numbers_of_terms : (base names numbers : List ℕ) → Below base → Below names → AreNumbersOf base names numbers → AreNumbers (map tree_of base) (Contains (map tree_of names)) numbers
   numbers_of_terms base names numbers base_below below are = record {
     rising = are.rising;
@@ -50,13 +56,6 @@ module _ (table : List Tree) (different : AllDifferent table) where
       λ h. (are.members a).1 (back base names base_below below a (slice_get base a) refl (subst (λ o. IsSomeAnd o (Contains (map tree_of names))) (slice_get-map tree_of base a) h)),
     );
   }
-  where
-    back : (base names : List ℕ) → Below base → Below names → (a : ℕ) (o : Option ℕ) → slice_get base a ≡ o → IsSomeAnd (option_map tree_of (slice_get base a)) (Contains (map tree_of names)) → IsSomeAnd (slice_get base a) (Contains names)
-    back base names base_below below a None e h = absurd (subst (λ o. IsSomeAnd (option_map tree_of o) (Contains (map tree_of names))) e h)
-    back base names base_below below a (Some n) e h =
-        let within = All-contains (λ k. k < length table) base n base_below (Contains-from_slice_get base a n e) in
-        some_and (Contains names) (slice_get base a) n e (one_of_names names below n within (subst (λ o. IsSomeAnd (option_map tree_of o) (Contains (map tree_of names))) e h))
-
   head_of_term : (base : List ℕ) (head number : Option ℕ) → IsNumberOfHead base head number → IsNumbered (map tree_of base) (option_map tree_of head) number
   head_of_term base None number is = is
   head_of_term base (Some n) number is =

@@ -1,6 +1,6 @@
 // The ground module of instances.
 ghost use Rattle.std.specs.Prelude.{◌≡◌, ◌+◌, ◌<◌, ◌≤◌, ◌++◌, ◌≢◌, All, AllPairs, Contains, IfOk, OnErr, OnOk, length, map};
-ghost use Rattle.ms_term.specs.Terms.{trees, term_at};
+ghost use Rattle.ms_term.specs.Terms.{trees, AllDifferent};
 ghost use Rattle.ms_instances.specs.Instances.{IsHeaded};
 ghost use Rattle.std.specs.Option.{ForSome};
 ghost use Rattle.ms_ctxground.specs.LeftRules.{AreLeftInOrder};
@@ -34,6 +34,8 @@ pub(crate) fn module_of(
     ensures ok { IfOk result (IsGrownBy (trees terms.now) instances.now base.old base.new) }
     ensures err { OnErr result (base.new ≡ base.old) }
 {
+    // The table says that equal terms have equal names.
+    let _ = terms.len();
     let mark = base.mark();
     let grown = grown_by(alloc, base, terms, instances);
     if grown.is_err() {
@@ -49,6 +51,7 @@ fn grown_by(
     terms: &Terms,
     instances: &[Instance],
 ) -> Result<GroundModule, OutOfMemory>
+    requires different { AllDifferent (trees terms.now) }
     requires base_named { All (λ n. n < length (trees terms.now)) base.old }
     requires named { All (IsNamedBelow (length (trees terms.now))) instances.now }
     requires headed { All (λ i. IsHeaded i.kind i.head) instances.now }

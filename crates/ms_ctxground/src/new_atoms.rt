@@ -2,7 +2,7 @@
 ghost use Rattle.std.specs.Prelude.{◌≡◌, ◌<◌, All, IfOk, OnOk, length};
 ghost use Rattle.std.specs.List.{filter_map};
 ghost use Rattle.ms_tree.specs.Order.{compare_trees};
-ghost use Rattle.ms_term.specs.Terms.{trees, term_at, number_in};
+ghost use Rattle.ms_term.specs.Terms.{trees, term_at, number_in, AllDifferent};
 ghost use Rattle.ms_copies.specs.Grounding.{gives_head, gives_external};
 ghost use Rattle.ms_ctxground.specs.NewAtoms.{head_of, AreAdded, IsInTermOrder, IsNewOf};
 
@@ -67,6 +67,7 @@ pub(crate) fn new_names(
     outputs: &[TermId],
     externals: &[TermId],
 ) -> Result<TermIds, OutOfMemory>
+    requires different { AllDifferent (trees terms.now) }
     requires outputs { All (λ n. n < length (trees terms.now)) outputs.now }
     requires externals { All (λ n. n < length (trees terms.now)) externals.now }
     ensures { IfOk result (IsNewOf (trees terms.now) base.now outputs.now externals.now) }
@@ -94,7 +95,8 @@ fn add_unknown(
 }
 
 fn in_term_order(terms: &Terms, mut names: Vec<TermId>) -> TermIds
-    requires { All (λ n. n < length (trees terms.now)) names.items }
+    requires different { AllDifferent (trees terms.now) }
+    requires below { All (λ n. n < length (trees terms.now)) names.items }
     ensures { IsInTermOrder (trees terms.now) names.items result }
 {
     names.sort_unstable_by(|a, b| compare(terms, *a, *b));

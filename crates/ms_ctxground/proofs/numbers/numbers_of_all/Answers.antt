@@ -3,12 +3,12 @@ use Rattle.std.proofs.lemmas.List.{take_all}
 use Rattle.std.proofs.lemmas.List.Elements.{All-push}
 use Rattle.std.specs.List.{Contains}
 use Rattle.ms_ctxground.proofs.Front.{take_read}
-use Rattle.ms_ctxground.proofs.Numbers.{AreFound-more, AreNumbersOf-from_found, Contains-from_slice_get}
+use Rattle.ms_ctxground.proofs.Numbered.{AreFound-more, AreNumbersOf-from_found, Contains-from_slice_get}
 use Rattle.ms_ctxground.proofs.numbers.numbers_of_all.Goals as goal
 
 pub loop-name-preserved : goal.loop-name-preserved
 loop-name-preserved c =
-    let grown = take_read c.args.names.now c.loop-name.name-index c.name.now c.loop-name-test.true c.name-item.is in
+    let grown = take_read c.args.names.now c.loop-name.name-index c.name-item.result c.loop-name-test.true c.name-item.is in
     let place = c.in-Some.ensures in
     record {
       found = rw (grown, c.in_ok-push.ensures.items) (AreFound-more _ c.loop-name.invariant.found _ place);

@@ -1,6 +1,6 @@
 use Rattle.std.proofs.Common.{take}
 use Rattle.std.specs.List.{All, Contains}
-use Rattle.ms_ctxground.proofs.Numbers.{AreFound}
+use Rattle.ms_ctxground.proofs.Numbered.{AreFound}
 use Rattle.ms_ctxground.proofs.numbers.numbers_of_all.Given as goal
 
 abbrev pub invariant-loop-name : goal.invariant-loop-name

@@ -1,5 +1,5 @@
 use Rattle.std.proofs.Common.{take}
-use Rattle.ms_ctxground.proofs.Numbers.{AreFound}
+use Rattle.ms_ctxground.proofs.Numbered.{AreFound}
 use Rattle.ms_ctxground.proofs.numbers.numbers_of_known.Given as goal
 
 abbrev pub invariant-loop-name : goal.invariant-loop-name

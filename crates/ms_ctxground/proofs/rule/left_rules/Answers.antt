@@ -1,3 +1,4 @@
+use Rattle.std.proofs.Common.{ap, sym, ◌∙◌}
 use Rattle.ms_ctxground.proofs.Front.{take_read}
 use Rattle.ms_ctxground.proofs.Rules.{AreAllLeft-more, AreAllLeft-skip}
 use Rattle.ms_ctxground.proofs.rule.left_rules.Goals as goal
@@ -12,3 +13,6 @@ loop-instance-preserved c =
           (AreAllLeft-more _ c.loop-instance.invariant _ (rw w.in-Some.is at c.in_ok-rule.ensures))
       | in_default w ↦ rw (grown, w.rules-is) (AreAllLeft-skip _ c.loop-instance.invariant (rw w.in_default.is at c.in_ok-rule.ensures))
     ]
+
+pub left_rule-requires : goal.left_rule-requires
+left_rule-requires c = λ x e. c.requires c.loop-instance.instance-index c.instance-item.result c.loop-instance-test.true x (ap (λ i. i.head) (sym c.instance-item.is) ∙ e)
