@@ -8,3 +8,6 @@ pub mod NamedTerms
 pub mod Added
 pub mod RuleSets
 pub mod TermSort
+pub mod Heads
+pub mod GroundModules
+pub mod Additions

@@ -1,5 +1,6 @@
 -- The elements of a list that is made from another.
-use Rattle.std.proofs.Common.{◌≡◌, subst, sym, zero, suc, List, [], ◌∷◌, Option, Some, None, map, ap, ◌∙◌, refl, arith}
+use Rattle.std.proofs.Common.{◌≡◌, ◌⊎◌, inl, inr, ⊎_elim, ℕ, eqb, Bool, true, false, subst, sym, zero, suc, List, [], ◌∷◌, Option, Some, None, map, ap, ◌∙◌, refl, arith}
+use Rattle.std.proofs.lemmas.Bool.Decides.{Decides-eqb}
 use Rattle.std.specs.List.{Any, Contains, cons_option, filter_map}
 
 Contains-next : {X : Type 0} (y : X) (ys : List X) (x : X) → Contains ys x → Contains (y ∷ ys) x
@@ -49,3 +50,23 @@ module _ {X Y : Type 0} (f : X → Y) (P : Y → Type 0) where
 
   pub Any-from_map : (xs : List X) → Any P (map f xs) → (x : X) × Contains xs x × P (f x)
   Any-from_map xs (k, y, within, at, holds) = let (x, listed, is) = Contains-from_map f xs y (k, within, at) in (x, listed, subst P (sym is) holds)
+
+same_or_not : (m n : ℕ) (b : Bool) → eqb m n ≡ b → (m ≡ n) ⊎ (m ≡ n → ⊥)
+same_or_not m n true e = inl ((Decides-eqb m n).0 e)
+same_or_not m n false e = inr (λ same. let alike : eqb m n ≡ true = (Decides-eqb m n).1 same in cc)
+
+not_cons : (x : ℕ) (xs : List ℕ) (n : ℕ) → (x ≡ n → ⊥) → (Contains xs n → ⊥) → Contains (x ∷ xs) n → ⊥
+not_cons x xs n apart nowhere (zero, within, at) = apart at
+not_cons x xs n apart nowhere (suc k, within, at) = nowhere (k, omega arith, at)
+
+-- a number is in a list or it isn't
+pub in_or_not : (xs : List ℕ) (n : ℕ) → Contains xs n ⊎ (Contains xs n → ⊥)
+in_or_not [] n = inr (λ (k, within, at). absurd (omega arith))
+in_or_not (x ∷ xs) n =
+    ⊎_elim
+    (λ (same : x ≡ n). inl (0, omega arith, same))
+    (λ (apart : x ≡ n → ⊥). ⊎_elim
+      (λ (later : Contains xs n). inl (Contains-next x xs n later))
+      (λ (nowhere : Contains xs n → ⊥). inr (not_cons x xs n apart nowhere))
+      (in_or_not xs n))
+    (same_or_not x n (eqb x n) refl)

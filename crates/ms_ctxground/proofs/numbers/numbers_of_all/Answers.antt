@@ -20,3 +20,7 @@ returns c =
     let all = take_all _ c.args.names.now c.loop-name-test.false in
     let found = rw all at c.loop-name.invariant.found in
     (rw all at c.loop-name.invariant.known, AreNumbersOf-from_found _ _ _ _ found c.each_once.ensures)
+
+pub returns-in_default : goal.returns-in_default
+returns-in_default c = λ all.
+    c.in_default.ensures (subst (Contains c.args.base.now) (sym c.name-item.is) (all c.loop-name.name-index c.name-item.result c.loop-name-test.true))
