@@ -22,7 +22,8 @@ use Rattle.ms_instances.specs.declared.instance.Instance.{Instance}
 use Rattle.ms_instances.specs.Instances.{said_by, AreNewBy, IsHeadAmong, IsHeaded, IsKnownBy, IsModuleBy}
 use Rattle.ms_ctxground.specs.Numbering.{AreNumbersOf, IsNumberOfHead}
 use Rattle.ms_ctxground.specs.LeftRules.{AreLeftInOrder, IsLeftBy}
-use Rattle.ms_ctxground.specs.NewAtoms.{head_of, IsNamedBelow, IsNewOf}
+use Rattle.ms_ctxground.specs.NewAtoms.{head_of, IsNewOf}
+use Rattle.ms_instances.specs.Naming.{IsNamed}
 use Rattle.ms_ctxground.specs.Growing.{IsGrownBy}
 use Rattle.ms_ctxground.proofs.Heads.{from_heads, to_heads, heads_below, among_from_heads, heads_from_among}
 use Rattle.ms_ctxground.proofs.Members.{Contains-map, Contains-from_map}
@@ -87,7 +88,7 @@ externals_of instances = filter_map (head_of gives_external) instances
 
 module _ (table : List Tree) (different : AllDifferent table) (instances : List Instance) (old : List ℕ) (m : GroundModule)
     (old_below : All (λ n. n < length table) old)
-    (named : All (IsNamedBelow (length table)) instances)
+    (named : All (IsNamed (length table)) instances)
     (headed : All (λ i. IsHeaded i.kind i.head) instances)
     (are_new : IsNewOf table old (outputs_of instances) (externals_of instances) m.names) where
 

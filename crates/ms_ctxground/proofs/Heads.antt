@@ -1,14 +1,15 @@
 -- The heads of instances, by their names and by their terms.
 use Rattle.std.proofs.Common.{◌≡◌, ◌≢◌, ℕ, ◌<◌, ◌≤◌, suc, List, [], ◌∷◌, ◌++◌, Option, Some, None, Bool, true, false, length, map, get_or, refl, sym, ap, ◌∙◌, subst, arith, ⊎_elim, inl, inr, ◌⊎◌, if◌then◌else◌}
 use Rattle.std.proofs.lemmas.List.Elements.{All-contains, Contains-get_or}
-use Rattle.std.specs.Prelude.{option_map}
+use Rattle.std.specs.Prelude.{IfSome, option_map}
 use Rattle.std.specs.List.{All, Any, Contains, cons_option, filter_map}
 use Rattle.ms_tree.specs.Tree.{Tree}
 use Rattle.ms_term.specs.Terms.{term_at}
 use Rattle.ms_core.specs.declared.rule.RuleKind.{RuleKind}
 use Rattle.ms_instances.specs.declared.instance.Instance.{Instance}
 use Rattle.ms_instances.specs.Instances.{said_by, IsHeadAmong}
-use Rattle.ms_ctxground.specs.NewAtoms.{head_of, IsNamedBelow}
+use Rattle.ms_ctxground.specs.NewAtoms.{head_of}
+use Rattle.ms_instances.specs.Naming.{IsNamed}
 use Rattle.ms_ctxground.proofs.Members.{Any-from_filter_map, Contains-filter_map, Contains-map, Contains-from_map, Any-map, Any-from_map}
 
 if_some : (b : Bool) (o : Option ℕ) (n : ℕ) → (if b then o else None) ≡ Some n → (b ≡ true) × (o ≡ Some n)
@@ -33,11 +34,11 @@ module _ (is_kind : RuleKind → Bool) where
   pub to_heads : (instances : List Instance) (i : Instance) (n : ℕ) → Contains instances i → is_kind i.kind ≡ true → i.head ≡ Some n → Contains (filter_map (head_of is_kind) instances) n
   to_heads instances i n (k, within, at) is e = Contains-filter_map (head_of is_kind) instances n (k, i, within, at, some_if (is_kind i.kind) i.head n is e)
 
-  pub heads_below : (size : ℕ) (instances : List Instance) → All (IsNamedBelow size) instances → All (λ n. n < size) (filter_map (head_of is_kind) instances)
+  pub heads_below : (size : ℕ) (instances : List Instance) → All (IsNamed size) instances → All (λ n. n < size) (filter_map (head_of is_kind) instances)
   heads_below size instances named k d within =
       let n : ℕ = get_or (filter_map (head_of is_kind) instances) k d in
       let (i, listed, is, e) = from_heads instances n (Contains-get_or (filter_map (head_of is_kind) instances) k d within) in
-      (All-contains (IsNamedBelow size) instances i named listed).head n e
+      subst (λ o. IfSome o (λ h. h < size)) e (All-contains (IsNamed size) instances i named listed).head
 
   pub among_from_heads : (table : List Tree) (instances : List Instance) (t : Tree) → Contains (map (term_at table) (filter_map (head_of is_kind) instances)) t → IsHeadAmong is_kind (map (said_by table) instances) t
   among_from_heads table instances t h =

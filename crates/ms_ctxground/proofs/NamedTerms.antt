@@ -14,7 +14,7 @@ use Rattle.ms_instances.specs.declared.instance.Instance.{Instance}
 use Rattle.ms_instances.specs.Instances.{Said, said_by, Leaves, AreLeftBy}
 use Rattle.ms_ctxground.specs.Numbering.{AreNumbersOf, IsNumberOfHead}
 use Rattle.ms_ctxground.specs.LeftRules.{IsLeftBy, MustLeave, AreAllLeft, AreLeftInOrder}
-use Rattle.ms_ctxground.specs.NewAtoms.{IsNamedBelow}
+use Rattle.ms_instances.specs.Naming.{IsNamed}
 use Rattle.ms_ctxground.proofs.Members.{Contains-map, Contains-from_map, Any-map, Any-from_map}
 use Rattle.ms_ctxground.proofs.Numbered.{some_and, from_some_and, Contains-from_slice_get}
 
@@ -63,7 +63,7 @@ module _ (table : List Tree) (different : AllDifferent table) where
       some_and (λ a. slice_get (map tree_of base) a ≡ Some (tree_of n)) number a number_is (slice_get-map tree_of base a ∙ ap (option_map tree_of) there)
 
   module _ (base : List ℕ) (base_below : Below base) where
-    left_by_terms : (i : Instance) (g : GroundRule) → IsNamedBelow (length table) i → IsLeftBy base i g → Leaves (map tree_of base) (said_by table i) g
+    left_by_terms : (i : Instance) (g : GroundRule) → IsNamed (length table) i → IsLeftBy base i g → Leaves (map tree_of base) (said_by table i) g
     left_by_terms i g named is = record {
       kind = is.kind;
       head = head_of_term base i.head g.head is.head;
@@ -72,17 +72,17 @@ module _ (table : List Tree) (different : AllDifferent table) where
       neg = numbers_of_terms base i.neg g.neg base_below named.neg is.neg;
     }
 
-    pub left_in_terms : (instances : List Instance) (rules : List GroundRule) → All (IsNamedBelow (length table)) instances → AreLeftInOrder base instances rules → AreLeftBy (map tree_of base) (map (said_by table) instances) rules
+    pub left_in_terms : (instances : List Instance) (rules : List GroundRule) → All (IsNamed (length table)) instances → AreLeftInOrder base instances rules → AreLeftBy (map tree_of base) (map (said_by table) instances) rules
     left_in_terms instances rules named are = record {
       rising = are.rising;
       each = λ k d within.
           let (j, i, below, at, is) = are.all.each k d within in
-          let is_named = All-contains (IsNamedBelow (length table)) instances i named (j, below, at) in
+          let is_named = All-contains (IsNamed (length table)) instances i named (j, below, at) in
           Any-map (said_by table) (λ s. Leaves (map tree_of base) s (get_or rules k d)) instances i (j, below, at) (left_by_terms i (get_or rules k d) is_named is);
       every = All-map (λ s. (kind : GroundKind) → ground_kind s.kind ≡ Some kind → All (Contains (map tree_of base)) s.pos → Any (Leaves (map tree_of base) s) rules) (said_by table) instances
           (λ k d within kind kind_is known.
           let i : Instance = get_or instances k d in
-          let is_named : IsNamedBelow (length table) i = named k d within in
+          let is_named : IsNamed (length table) i = named k d within in
           let (j, g, below, at, is) = are.all.every k d within (kind, kind_is, all_of_names base i.pos base_below is_named.pos known) in
           (j, g, below, at, left_by_terms i g is_named is));
     }

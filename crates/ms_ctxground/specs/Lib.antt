@@ -2,3 +2,4 @@ pub mod Numbering
 pub mod LeftRules
 pub mod NewAtoms
 pub mod Growing
+pub mod Sizes

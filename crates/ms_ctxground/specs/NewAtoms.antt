@@ -1,5 +1,5 @@
 -- The names of atoms, in term order.
-use Rattle.std.specs.Prelude.{ℕ, ◌≡◌, ◌↔◌, ◌+◌, ◌<◌, ◌≤◌, ◌⊎◌, List, Option, Some, None, if◌then◌else◌, Bool, All, Contains, length, map}
+use Rattle.std.specs.Prelude.{ℕ, ◌≡◌, ◌↔◌, ◌+◌, ◌<◌, ◌≤◌, ◌⊎◌, List, Option, Some, None, if◌then◌else◌, Bool, Contains, length, map}
 use Rattle.std.specs.List.Sorted.{IsStrictlySortedBy}
 use Rattle.ms_tree.specs.Tree.{Tree}
 use Rattle.ms_tree.specs.Order.{compare_trees}
@@ -16,12 +16,6 @@ pub record IsInTermOrder (table : List Tree) (names ordered : List ℕ) : Type 0
 -- the head of an instance of such a kind
 abbrev pub head_of : (RuleKind → Bool) → Instance → Option ℕ
 head_of is_kind i = if is_kind i.kind then i.head else None
-
--- the names of an instance are among those of a table of so many terms
-pub record IsNamedBelow (size : ℕ) (i : Instance) : Type 0 where
-  pub head : (n : ℕ) → i.head ≡ Some n → n < size
-  pub pos : All (λ n. n < size) i.pos
-  pub neg : All (λ n. n < size) i.neg
 
 -- The names that the base lacks are added.
 pub record AreAdded (base names old new : List ℕ) : Type 0 where

@@ -5,5 +5,7 @@ mod module;
 mod new_atoms;
 mod numbers;
 mod rule;
+mod size;
 
+pub use size::has_large_head;
 pub use ms_term::{OutOfMemory, TermId, Terms};

@@ -4,7 +4,7 @@ ghost use Rattle.ms_term.specs.Terms.{trees, AllDifferent};
 ghost use Rattle.ms_instances.specs.Instances.{IsHeaded};
 ghost use Rattle.std.specs.Option.{ForSome};
 ghost use Rattle.ms_ctxground.specs.LeftRules.{AreLeftInOrder};
-ghost use Rattle.ms_ctxground.specs.NewAtoms.{IsNamedBelow};
+ghost use Rattle.ms_instances.specs.Naming.{IsNamed};
 ghost use Rattle.ms_ctxground.specs.Growing.{IsFrontOf, IsGrownBy};
 
 use crate::new_atoms::{externals, new_names, outputs};
@@ -27,7 +27,7 @@ pub(crate) fn module_of(
     instances: &[Instance],
 ) -> Result<GroundModule, OutOfMemory>
     requires base_named { All (λ n. n < length (trees terms.now)) base.old }
-    requires named { All (IsNamedBelow (length (trees terms.now))) instances.now }
+    requires named { All (IsNamed (length (trees terms.now))) instances.now }
     requires headed { All (λ i. IsHeaded i.kind i.head) instances.now }
     requires few_atoms { length base.old ≤ 4000000 }
     requires few { length instances.now ≤ 1000000 }
@@ -53,7 +53,7 @@ fn grown_by(
 ) -> Result<GroundModule, OutOfMemory>
     requires different { AllDifferent (trees terms.now) }
     requires base_named { All (λ n. n < length (trees terms.now)) base.old }
-    requires named { All (IsNamedBelow (length (trees terms.now))) instances.now }
+    requires named { All (IsNamed (length (trees terms.now))) instances.now }
     requires headed { All (λ i. IsHeaded i.kind i.head) instances.now }
     requires few_atoms { length base.old ≤ 4000000 }
     requires few { length instances.now ≤ 1000000 }

@@ -1,6 +1,6 @@
 -- What the copies of core rules say, and the ground module that they have over a base.
 -- A ground instance is what is left of a rule under one choice of integers for its ranges.
-use Rattle.std.specs.Prelude.{ℕ, ◌≡◌, ◌++◌, ◌⊎◌, ◌↔◌, List, [], ◌∷◌, Option, Some, None, All, Any, Contains, length, map, option_map, Bool, true}
+use Rattle.std.specs.Prelude.{ℕ, ◌≡◌, ◌++◌, ◌⊎◌, ◌↔◌, List, Option, Some, None, All, Any, Contains, length, map, option_map, Bool, true}
 use Rattle.std.specs.List.Sorted.{IsStrictlySortedBy}
 use Rattle.ms_tree.specs.Tree.{Tree}
 use Rattle.ms_tree.specs.Order.{compare_trees}

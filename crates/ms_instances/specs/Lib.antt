@@ -1,1 +1,3 @@
 pub mod Instances
+pub mod Listing
+pub mod Naming

@@ -1,0 +1,4 @@
+pub mod Growing
+pub mod Members
+pub mod Adding
+pub mod OneCopy
