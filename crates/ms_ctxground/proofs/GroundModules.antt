@@ -197,6 +197,7 @@ module _ (table : List Tree) (different : AllDifferent table) (instances : List 
     IsGrownBy-from_parts = record {
       is = is_module;
       base = refl;
+      named = new_below;
       well_formed = record {
         first = first_is;
         fresh = fresh_is;

@@ -20,7 +20,7 @@ some_if : (b : Bool) (o : Option ℕ) (n : ℕ) → b ≡ true → o ≡ Some n 
 some_if true o n is e = e
 some_if false o n is e = cc
 
-mapped_some : (f : ℕ → Tree) (o : Option ℕ) (t : Tree) → option_map f o ≡ Some t → (n : ℕ) × (o ≡ Some n) × (f n ≡ t)
+pub mapped_some : (f : ℕ → Tree) (o : Option ℕ) (t : Tree) → option_map f o ≡ Some t → (n : ℕ) × (o ≡ Some n) × (f n ≡ t)
 mapped_some f None t e = cc
 mapped_some f (Some n) t e = (n, refl, cc)
 

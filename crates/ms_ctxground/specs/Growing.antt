@@ -1,5 +1,5 @@
 -- A base of names that grows by the new atoms of a ground module.
-use Rattle.std.specs.Prelude.{ℕ, ◌≡◌, ◌≤◌, ◌++◌, List, length, map, take}
+use Rattle.std.specs.Prelude.{ℕ, ◌≡◌, ◌<◌, ◌≤◌, ◌++◌, List, All, length, map, take}
 use Rattle.ms_tree.specs.Tree.{Tree}
 use Rattle.ms_term.specs.Terms.{term_at}
 use Rattle.ms_join.specs.declared.ground_module.GroundModule.{GroundModule}
@@ -17,3 +17,4 @@ pub record IsGrownBy (table : List Tree) (instances : List Instance) (old new : 
   pub is : IsModuleBy (map (term_at table) old) (map (said_by table) instances) (map (term_at table) m.names) m
   pub base : new ≡ old ++ m.names
   pub well_formed : IsWellFormed (length old) m
+  pub named : All (λ n. n < length table) new

@@ -3,3 +3,5 @@ pub mod LeftRules
 pub mod NewAtoms
 pub mod Growing
 pub mod Sizes
+pub mod Faults
+pub mod Grounds

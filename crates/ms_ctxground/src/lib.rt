@@ -1,11 +1,15 @@
 // The ground module of core rules over a base.
 #![tactic(auto)]
 
+mod fault;
+mod ground;
 mod module;
 mod new_atoms;
 mod numbers;
 mod rule;
 mod size;
 
+pub use fault::GroundFault;
+pub use ground::ground;
 pub use size::has_large_head;
 pub use ms_term::{OutOfMemory, TermId, Terms};
