@@ -11,3 +11,6 @@ pub mod TermSort
 pub mod Heads
 pub mod GroundModules
 pub mod Additions
+pub mod CoreHeads
+pub mod Sized
+pub mod PlainRules
