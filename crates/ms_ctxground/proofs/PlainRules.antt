@@ -2,6 +2,7 @@
 use Rattle.std.proofs.Common.{◌≡◌, ℕ, ◌<◌, ◌≤◌, List, [], ◌∷◌, ◌++◌, length, map, get_or, refl, sym, ap, ◌∙◌, subst, arith, ⊎_elim, inl, inr}
 use Rattle.std.proofs.lemmas.List.{length-map}
 use Rattle.std.proofs.lemmas.List.Elements.{All-head, All-tail, All-map, All-append, Contains-get_or}
+use Rattle.std.specs.Prelude.{Result, Ok, Err, IsErrAnd}
 use Rattle.std.specs.List.{All, Any, Contains}
 use Rattle.ms_tree.specs.Tree.{Tree}
 use Rattle.ms_tree.specs.Size.{tree_size}
@@ -14,10 +15,14 @@ use Rattle.ms_value.specs.Naming.{Keeps}
 use Rattle.ms_instances.specs.declared.instance.Instance.{Instance}
 use Rattle.ms_instances.specs.Instances.{Said, said_by, IsHeaded, IsKnownBy, IsModuleBy}
 use Rattle.ms_instances.specs.Listing.{all_said}
-use Rattle.ms_instances.specs.Naming.{AreInstances, IsHeadedRule, IsNamed}
+use Rattle.ms_instances.specs.declared.fault.InstanceFault.{InstanceFault}
+use Rattle.ms_instances.specs.declared.fault.InstanceFault.TheVariants.{TooMany, OutOfMemory}
+use Rattle.ms_instances.specs.Naming.{AreInstances, IsHeadedRule, Refuses}
 use Rattle.ms_instances.proofs.Counting.{too_many, not_too_many}
 use Rattle.ms_instances.proofs.Modules.{known_by, module_by}
-use Rattle.ms_ctxground.specs.Grounds.{ArePlain, IsBaseIn, IsGround, IsRefused}
+use Rattle.ms_ctxground.specs.Grounds.{ArePlain, Grounds, IsBaseIn, IsGround, IsRefused}
+use Rattle.ms_ctxground.specs.Faults.{fault_of}
+use Rattle.ms_ctxground.specs.declared.fault.GroundFault.{GroundFault}
 use Rattle.ms_ctxground.specs.Growing.{IsGrownBy}
 use Rattle.ms_ctxground.specs.Sizes.{HasLargeHead}
 use Rattle.ms_ctxground.proofs.Members.{Contains-map, Contains-from_map}
@@ -96,3 +101,12 @@ module _ {rules : List CoreRule} {old_table new_table : List Tree} {list : List 
                 small (term_at new_table n) ((by_names.new.members (term_at new_table n)).0 (Contains-map (term_at new_table) m.names n (Contains-get_or m.names k d within))).0));
           };
         }
+
+-- what is answered where there are no instances
+answer_of : (rules : List CoreRule) (old_table new_table : List Tree) (old : List ℕ) (e : InstanceFault) → ArePlain rules → Refuses old_table new_table (length (all_said rules)) e → Grounds rules old_table new_table old old (Err (fault_of e))
+answer_of rules old_table new_table old TooMany plain refuses = refused_copies plain refuses.0 refuses.1 refl
+answer_of rules old_table new_table old OutOfMemory plain refuses = refl
+
+pub answer_from : (rules : List CoreRule) (old_table new_table : List Tree) (old : List ℕ) (r : Result GroundModule GroundFault) (e : InstanceFault) → IsErrAnd r (λ f. f ≡ fault_of e) → ArePlain rules → Refuses old_table new_table (length (all_said rules)) e → Grounds rules old_table new_table old old r
+answer_from rules old_table new_table old (Ok m) e is plain refuses = absurd is
+answer_from rules old_table new_table old (Err f) e is plain refuses = subst (λ g. Grounds rules old_table new_table old old (Err g)) (sym is) (answer_of rules old_table new_table old e plain refuses)

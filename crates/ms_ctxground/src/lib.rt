@@ -2,6 +2,7 @@
 #![tactic(auto)]
 
 mod fault;
+mod ground;
 mod module;
 mod new_atoms;
 mod numbers;
@@ -10,5 +11,6 @@ mod rule;
 mod size;
 
 pub use fault::GroundFault;
+pub use ground::ground;
 pub use size::has_large_head;
 pub use ms_term::{OutOfMemory, TermId, Terms};

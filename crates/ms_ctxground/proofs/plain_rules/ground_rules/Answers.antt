@@ -1,11 +1,11 @@
 use Rattle.std.proofs.Common.{◌≡◌, true, sym, ◌∙◌}
 use Rattle.ms_term.specs.Terms.{trees}
 use Rattle.ms_ctxground.specs.Sizes.{HasLargeHead}
-use Rattle.ms_ctxground.proofs.PlainRules.{refused_copies, refused_head, is_ground}
+use Rattle.ms_ctxground.proofs.PlainRules.{answer_from, refused_head, is_ground}
 use Rattle.ms_ctxground.proofs.plain_rules.ground_rules.Goals as goal
 
 pub returns-in_err-instances : goal.returns-in_err-instances
-returns-in_err-instances c = let h = c.from_residual.ensures in let k = c.in_err-instances.ensures.err in let l = c.in_err-instances.was in let m = c.in_err-instances.is in let n = c.branch-instances.ensures in ?
+returns-in_err-instances c = answer_from c.args.rules.now (trees c.args.terms.now) (trees c.instances.new.terms) c.args.base.now c.from_residual.result c.in_err-instances.field-0.0 c.from_residual.ensures.1 c.requires.plain c.in_err-instances.ensures.err
 
 pub returns-then-has_large_head : goal.returns-then-has_large_head
 returns-then-has_large_head c =
