@@ -1,0 +1,16 @@
+pub mod TermOrder
+pub mod Front
+pub mod Numbered
+pub mod Rules
+pub mod SameRules
+pub mod Members
+pub mod NamedTerms
+pub mod Added
+pub mod RuleSets
+pub mod TermSort
+pub mod Heads
+pub mod GroundModules
+pub mod Additions
+pub mod CoreHeads
+pub mod Sized
+pub mod PlainRules
