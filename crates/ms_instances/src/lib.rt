@@ -5,6 +5,8 @@ mod fault;
 pub mod instance;
 mod listing;
 mod making;
+#[cfg(test)]
+mod tests;
 
 pub use fault::InstanceFault;
 pub use instance::{Instance, Instances};
