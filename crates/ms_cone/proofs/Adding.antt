@@ -41,13 +41,6 @@ adds_one uses u a b head atom = record {
   ];
 }
 
-pub adds_none : (uses : List Use) (head : Option ℕ) → AddsUses uses uses head []
-adds_none uses head = record {
-  kept = λ a b is. is;
-  each = λ a b is here. absurd (let lt = here.1 in omega (arith, lt));
-  only = λ a b is. inl is;
-}
-
 pub adds_more : (old mid new : List Use) (head : Option ℕ) (atoms : List ℕ) (b : ℕ) → AddsUses old mid head atoms → AddsUses mid new head (b ∷ []) → AddsUses old new head (atoms ++ b ∷ [])
 adds_more old mid new head atoms b first then = record {
   kept = λ x y is. then.kept x y (first.kept x y is);

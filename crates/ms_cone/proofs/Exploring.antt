@@ -1,20 +1,9 @@
 -- How far a search has come.
-use Rattle.std.proofs.Common.{◌≡◌, ◌+◌, ℕ, List, [], Some, Contains, slice_get, inl, inr, sym, ap, subst, ◌∙◌, arith}
+use Rattle.std.proofs.Common.{◌≡◌, ◌+◌, ℕ, List, Some, slice_get, inl, inr, sym, ap, subst, ◌∙◌, arith}
 use Rattle.std.proofs.lemmas.Bool.{cases_lt}
 use Rattle.std.proofs.lemmas.Option.{same_Some, slice_get_within}
-use Rattle.ms_graph.specs.declared.edge.Edge.{Edge}
-use Rattle.ms_cone.specs.Search.{Found, IsStart, HasEdge, Follows, IsExplored}
+use Rattle.ms_cone.specs.Search.{Found, HasEdge, Follows, IsExplored}
 use Rattle.ms_cone.proofs.Members.{at_contains, contains_at}
-
-pub explored_start : (Is : ℕ → ℕ → Type 0) (starts : List ℕ) (s : Found) → IsStart starts s → IsExplored Is starts s 0
-explored_start Is starts s start = record {
-  begun = start.begun;
-  origin = λ i a at. inl (start.only i a at);
-  sound = λ a b edge.
-      let none : Contains {X = Edge} [] (record { from = edge.from; to = edge.to }) = subst (λ (edges : List Edge). Contains edges (record { from = edge.from; to = edge.to })) start.edges edge.edge in
-      absurd (let lt = none.1 in omega (arith, lt));
-  whole = λ i b a less at is. absurd (omega (arith, less));
-}
 
 -- one more member was followed
 pub explored_more : (Is : ℕ → ℕ → Type 0) (starts : List ℕ) (old new : Found) (place b : ℕ) → IsExplored Is starts old place → slice_get old.members place ≡ Some b → Follows old new b (λ a. Is a b) → IsExplored Is starts new (place + 1)

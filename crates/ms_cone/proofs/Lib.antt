@@ -1,4 +1,5 @@
 pub mod Adding
+pub mod Chained
 pub mod CrossLoops
 pub mod Entering
 pub mod Exploring
