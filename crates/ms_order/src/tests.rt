@@ -13,7 +13,7 @@ fn terms_in_order(rt: HostRuntime) -> Result<(), Fail> {
     let sorted = in_term_order(&terms, vec![in alloc; text, two, one, two]?);
     assert_eq!(rt;
         sorted.as_slice(),
-        &[one, two, text],
+        [one, two, text].as_slice(),
         "numbers and a string"
     );
     assert_eq!(rt;

@@ -16,9 +16,9 @@ use ms_base::seq::Seq;
 use ms_join::ground_module::TermIds;
 use ms_machine::reply::Shown;
 use ms_order::{compare_lists, in_term_order};
+use ms_parts::Parts;
 use ms_rules::AtomSet;
 use ms_term::{TermId, Terms};
-use ms_parts::Parts;
 use std::alloc::Global;
 
 /// Whether the texts show the atom.

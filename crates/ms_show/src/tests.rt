@@ -48,6 +48,7 @@ fn sets_of_one_atom(rt: HostRuntime) -> Result<(), Fail> {
     let mut terms = Terms::new(alloc);
     let atom = terms.function(b"a", &[])?;
     let text = lines(alloc, &terms, atom)?;
-    assert_eq!(rt; text.as_slice(), b"answer:\nanswer: a\n");
+    let wanted = b"answer:\nanswer: a\n";
+    assert_eq!(rt; text.as_slice(), wanted.as_slice(), "no atom, and one");
     Ok(())
 }
