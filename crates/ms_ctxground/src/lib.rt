@@ -1,16 +1,18 @@
 // The ground module of core rules over a base.
 #![tactic(auto)]
 
+mod calls;
 mod fault;
-mod ground;
 mod module;
 mod new_atoms;
 mod numbers;
 mod plain_rules;
 mod rule;
 mod size;
+#[cfg(test)]
+mod tests;
 
 pub use fault::GroundFault;
-pub use ground::ground;
+pub use calls::ground;
 pub use size::has_large_head;
 pub use ms_term::{OutOfMemory, TermId, Terms};

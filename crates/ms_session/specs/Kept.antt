@@ -1,5 +1,5 @@
 -- What a session keeps, and what its calls do.
-use Rattle.std.specs.Prelude.{ℕ, ◌≡◌, ◌<◌, ◌≤◌, Bool, true, false, List, Option, Some, None, All, Contains, MatchOption, length, map, slice_get, ⊤}
+use Rattle.std.specs.Prelude.{ℕ, ◌≡◌, ◌<◌, ◌≤◌, Bool, true, false, List, Option, Some, All, Contains, MatchOption, length, map, slice_get, ⊤}
 use Rattle.ms_tree.specs.Tree.{Tree}
 use Rattle.ms_tree.specs.Size.{tree_size}
 use Rattle.ms_term.specs.declared.node.Node.{Node}
@@ -73,20 +73,24 @@ pub record IsAtomOf (names : List Tree) (t : Tree) (a : ℕ) : Type 0 where
   pub there : slice_get names a ≡ Some t
   pub only : (b : ℕ) → slice_get names b ≡ Some t → b ≡ a
 
--- The number of the atom with this term, or none exactly where the base has no such atom. The table may have grown.
-pub record IsFound (old : Kept) (t : Tree) (new : Kept) (found : Option ℕ) : Type 0 where
+-- the number of the atom with this term, or none exactly where there is no such atom
+abbrev pub IsNumberOf : List Tree → Tree → Option ℕ → Type 0
+IsNumberOf names t number = MatchOption number (¬ Contains names t) (IsAtomOf names t)
+
+-- The base has the atom with this term under this number, or none. The table may have grown, and nothing else changes.
+pub record IsFound (old : Kept) (t : Tree) (new : Kept) (number : Option ℕ) : Type 0 where
   pub was_open : old.sealed ≡ false
   pub is_open : new.sealed ≡ false
   pub state : state_of new ≡ state_of old
-  pub answers : MatchOption found (¬ Contains (state_of old).names t) (IsAtomOf (state_of old).names t)
+  pub found : IsNumberOf (state_of old).names t number
 
 -- The input has this truth from now on, and nothing else changes. Nothing at all does where the atom is no input.
 abbrev pub Assigns : Kept → ℕ → Truth → Kept → Effect → Type 0
-Assigns old a truth new Done = IsAssigned old.join a (value_of truth) new.join × (new ≡ record old { join = new.join })
+Assigns old a truth new Done = IsInput old.join a × IsAssigned old.join a (value_of truth) new.join × (new ≡ record old { join = new.join })
 Assigns old a truth new NoEffect = (¬ IsInput old.join a) × (new ≡ old)
 
 -- The input is an output without a rule from now on, and nothing else changes. Nothing at all does where the atom is
 -- no input.
 abbrev pub Releases : Kept → ℕ → Kept → Effect → Type 0
-Releases old a new Done = IsReleased old.join a new.join × (new ≡ record old { join = new.join })
+Releases old a new Done = IsInput old.join a × IsReleased old.join a new.join × (new ≡ record old { join = new.join })
 Releases old a new NoEffect = (¬ IsInput old.join a) × (new ≡ old)

@@ -1,2 +1,6 @@
+pub mod ReadText
 pub mod Kept
+pub mod Naming
 pub mod Steps
+pub mod Joining
+pub mod Assuming

@@ -1,6 +1,17 @@
 // One step of the machine for each command.
 #![tactic(auto)]
 
+mod adding;
+mod atoms;
+mod grounding;
+mod reply_text;
 mod session;
+mod solving;
+#[cfg(test)]
+mod tests;
+mod text;
+mod value_term;
 
+pub use ms_base::memory::OutOfMemory;
+pub use ms_join::truth::{Effect, Truth};
 pub use session::Session;

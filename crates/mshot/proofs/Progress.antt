@@ -1,5 +1,5 @@
 -- How the replies go on by one item.
-use Rattle.std.proofs.Common.{◌≡◌, ◌∙◌, ◌↔◌, ◌⊎◌, inl, inr, ℕ, ◌+◌, Bool, true, false, ◌||◌, List, [], ◌∷◌, ◌++◌, length, take, Option, Some, None, IsSome, Result, Ok, Err, IfOk, OnOk, OnErr, sym, subst, ap, refl, append_assoc}
+use Rattle.std.proofs.Common.{◌≡◌, ◌∙◌, inl, inr, ℕ, ◌+◌, Bool, true, false, ◌||◌, List, [], ◌∷◌, ◌++◌, length, take, Option, Some, None, IsSome, Result, Ok, Err, IfOk, OnOk, OnErr, is_err, sym, subst, ap, refl, append_assoc}
 use Rattle.std.specs.List.{list_any}
 use Rattle.std.proofs.lemmas.Bool.{false≢true}
 use Rattle.std.proofs.lemmas.List.{append-nil}
@@ -12,7 +12,7 @@ use Rattle.ms_machine.specs.declared.reply.Refusal.TheVariants.{Unfinished}
 use Rattle.ms_machine.specs.Machine.{State, start}
 use Rattle.ms_machine.specs.Replies.{Reply, refused, replies_text, reply_text, is_refused}
 use Rattle.ms_machine.specs.Scripts.{Takes, Run, Replies, reply_at_end}
-use Rattle.mshot.specs.Outcome.{WritesReplies, WritesFront, RepliesToFront}
+use Rattle.mshot.specs.Outcome.{WritesReplies}
 use Rattle.mshot.specs.Serving.{HasSaid, HasAnswered, HasStopped, WritesFrontOf}
 
 -- a run goes on by one item
@@ -246,8 +246,24 @@ module _ (lines : Lines) (state : State) (refusal : Bool) (before after : Option
   cut_stopped (Ok more) put = tt
   cut_stopped (Err stop) put = λ script held done. cut_part script lines state refusal held before done none are after put
 
--- what is written from the first item on
-module _ (script : List ℕ) (lines : Lines) (state : State) (first : HasSaid script [] lines) (begins : state ≡ start) (before after : Option (List ℕ)) {E : Type 0} where
-  pub all_stopped : (r : Result Bool E) → OnErr r ((script held : List ℕ) → HasAnswered script lines state false held before → HasStopped script held after) → OnErr r ((held : List ℕ) → before ≡ Some held → HasStopped script held after)
+-- what is written from the first item on to the end
+module _ (script : List ℕ) (lines next : Lines) (state new : State) (first : HasSaid script [] lines) (begins : state ≡ start) (before middle after : Option (List ℕ)) (refusal : Bool)
+    (answered : (script held : List ℕ) → HasAnswered script lines state false held before → HasAnswered script next new refusal held middle) {E : Type 0} where
+  pub all_written : (r : Result Bool E) → IfOk r (λ more. (script held : List ℕ) → HasAnswered script next new refusal held middle → (now : List ℕ) × (after ≡ Some now) × WritesReplies more script held now)
+      → IfOk r (λ more. (held : List ℕ) → before ≡ Some held → (now : List ℕ) × (after ≡ Some now) × WritesReplies more script held now)
+  all_written (Ok more) put = λ held at. put script held (answered script held (answered_none script lines state held before first begins at))
+  all_written (Err stop) put = tt
+
+  pub all_stopped : (r : Result Bool E) → OnErr r ((script held : List ℕ) → HasAnswered script next new refusal held middle → HasStopped script held after)
+      → OnErr r ((held : List ℕ) → before ≡ Some held → HasStopped script held after)
   all_stopped (Ok more) put = tt
-  all_stopped (Err stop) put = λ held at. put script held (answered_none script lines state held before first begins at)
+  all_stopped (Err stop) put = λ held at. put script held (answered script held (answered_none script lines state held before first begins at))
+
+-- what holds where a call didn't fail, and where another one did
+pub where_fed : {A E : Type 0} {P : Type 0} (r : Result A E) (failed : Bool) → failed ≡ is_err r → failed ≡ false → OnOk r P → P
+where_fed (Ok x) failed is not_failed p = p
+where_fed (Err e) failed is not_failed p = absurd (false≢true (sym not_failed ∙ is))
+
+pub where_failed : {A E : Type 0} {P : Type 0} (r : Result A E) → P → OnErr r P
+where_failed (Ok x) p = tt
+where_failed (Err e) p = p

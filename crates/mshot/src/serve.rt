@@ -42,19 +42,19 @@ fn next_reply(
 fn put_reply<K: Sink>(
     alloc: Global,
     session: &mut Session,
-    reply: &Reply,
+    reply: Reply,
     out: &mut K,
 ) -> Result<bool, Stop>
-    requires { IsNamed (length (table_of session.old)) reply.now }
+    requires { IsNamed (length (table_of session.old)) reply }
     ensures counts { K.faults out.old ≤ K.faults out.new }
     ensures fault { result ≡ Err Stop.Fault → Rose (K.faults out.old) (K.faults out.new) }
-    ensures refusal { IfOk result (λ refused. refused ≡ is_refused (reply_of session.old reply.now)) }
+    ensures refusal { IfOk result (λ refused. refused ≡ is_refused (reply_of session.old reply)) }
     ensures same { OnOk result (session.new ≡ session.old) }
-    ensures whole { OnOk result ((held : List ℕ) → K.held out.old ≡ Some held → K.held out.new ≡ Some (held ++ reply_text (reply_of session.old reply.now))) }
-    ensures front { OnErr result ((held : List ℕ) → K.held out.old ≡ Some held → WritesFrontOf (reply_text (reply_of session.old reply.now)) held (K.held out.new)) }
+    ensures whole { OnOk result ((held : List ℕ) → K.held out.old ≡ Some held → K.held out.new ≡ Some (held ++ reply_text (reply_of session.old reply))) }
+    ensures front { OnErr result ((held : List ℕ) → K.held out.old ≡ Some held → WritesFrontOf (reply_text (reply_of session.old reply)) held (K.held out.new)) }
 {
     let mut text = Vec::new(alloc);
-    if session.print(reply, &mut text).is_err() {
+    if session.print(&reply, &mut text).is_err() {
         return Err(Stop::OutOfMemory);
     }
     match out.put(text.as_slice()) {
@@ -83,7 +83,7 @@ fn put_replies<K: Sink>(
             Ok(None) => return Ok(refused),
             Err(OutOfMemory) => return Err(Stop::OutOfMemory),
         };
-        match put_reply(alloc, session, &reply, out) {
+        match put_reply(alloc, session, reply, out) {
             Ok(refusal) => refused |= refusal,
             Err(stop) => return Err(stop),
         }
@@ -105,7 +105,7 @@ fn put_end<K: Sink>(
     ensures stopped { OnErr result ((script held : List ℕ) → HasAnswered script lines.now (state_of session.old) refused held (K.held out.old) → HasStopped script held (K.held out.new)) }
 {
     if lines.unfinished() {
-        put_reply(alloc, session, &Reply::Refused(Refusal::Unfinished), out)
+        put_reply(alloc, session, Reply::Refused(Refusal::Unfinished), out)
     } else {
         Ok(refused)
     }

@@ -65,12 +65,7 @@ fn scripts_have_their_replies(rt: HostRuntime) -> Result<(), Fail> {
     let done = Status::Done;
     let refused = Status::SomeRefused;
     let rows: [(&str, &[u8], Status, &str); 13] = [
-        (
-            "empty input",
-            b"",
-            done,
-            "",
-        ),
+        ("empty input", b"", done, ""),
         (
             "two answers",
             b"@add\na :- not b. b :- not a.\n@end\n@ground base\n@solve all\n",
@@ -255,12 +250,7 @@ fn texts_are_read(rt: HostRuntime) -> Result<(), Fail> {
     let done = Status::Done;
     let refused = Status::SomeRefused;
     let rows: [(&str, &[u8], Status, &str); 20] = [
-        (
-            "blanks and a comment",
-            b" \t\n\r\n% @add\n",
-            done,
-            "",
-        ),
+        ("blanks and a comment", b" \t\n\r\n% @add\n", done, ""),
         (
             "a bad second line",
             b"@add\na.\nb c.\n@end\n@solve 3\n",
@@ -459,7 +449,11 @@ fn an_atom_has_a_greatest_size(rt: HostRuntime) -> Result<(), Fail> {
         }
         script.extend_from_slice(b").\n@end\n@ground base\n")?;
         let outcome = call(alloc, &["run"], script.as_slice(), &[], &[], ROOM)?;
-        assert_eq!(rt; outcome.written.as_slice(), replies.as_bytes(), "{count} arguments");
+        assert_eq!(rt;
+            outcome.written.as_slice(),
+            replies.as_bytes(),
+            "{count} arguments"
+        );
     }
     Ok(())
 }

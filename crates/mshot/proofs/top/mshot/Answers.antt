@@ -1,4 +1,5 @@
-use Rattle.std.proofs.Common.{arith}
+use Rattle.std.proofs.Common.{◌≡◌, ◌∙◌, ℕ, List, Some, subst, arith}
+use Rattle.mshot.specs.Outcome.{Writes}
 use Rattle.mshot.proofs.Progress.{stopped_before}
 use Rattle.mshot.proofs.top.mshot.Goals as goal
 
@@ -18,3 +19,8 @@ returns-in-Err-OutOfMemory-clause-input g c = λ words script at. rw c.in-Err-Ou
 
 pub returns-in-Err-OutOfMemory-clause-replies : goal.returns-in-Err-OutOfMemory-clause-replies
 returns-in-Err-OutOfMemory-clause-replies g c = λ words script held at told. stopped_before script held (g.K.Sink.held c.args.out.now) told
+
+pub returns-in-Ok-clause-replies : goal.returns-in-Ok-clause-replies
+returns-in-Ok-clause-replies g c = λ words script held at told.
+    let read = c.in-Ok.ensures.input script at in
+    subst (λ s. (now : List ℕ) × (g.K.Sink.held c.answer.new.out ≡ Some now) × Writes c.answer.result s held now) (c.as_slice-in-Ok.ensures ∙ read.1) (c.answer.ensures.replies held told)
