@@ -1,5 +1,5 @@
 -- Names that a base lacks, as they are collected one after another.
-use Rattle.std.proofs.Common.{◌≡◌, ℕ, ◌+◌, ◌≤◌, ◌⊎◌, inl, inr, List, [], ◌∷◌, ◌++◌, Option, Some, None, Bool, true, false, not, length, length-append, get_or, ap, arith, subst, ⊎_elim}
+use Rattle.std.proofs.Common.{◌≡◌, ℕ, ◌⊎◌, inl, inr, List, [], ◌∷◌, ◌++◌, Option, Some, None, Bool, true, false, not, length, length-append, get_or, ap, arith, subst, ⊎_elim}
 use Rattle.std.proofs.lemmas.List.Elements.{All-contains, Contains-append_left, Contains-get_or, Contains-push, Contains-push_cases}
 use Rattle.std.specs.Prelude.{MatchOption, is_some}
 use Rattle.std.specs.List.{All, Contains}
@@ -23,10 +23,10 @@ module _ {base names old new : List ℕ} (name : ℕ) (added : AreAdded base nam
     members = λ n. (
       λ h. earlier n ((added.members n).0 h),
       λ either. (added.members n).1 (⊎_elim
-        (λ (h : Contains old n). inl h)
-        (λ (h : Contains (names ++ name ∷ []) n × (Contains base n → ⊥)).
-        ⊎_elim (λ (k : Contains names n). inr (k, h.1)) (λ (now : name ≡ n). absurd (h.1 (subst (Contains base) now known))) (Contains-push_cases names name n h.0))
-        either),
+          (λ (h : Contains old n). inl h)
+          (λ (h : Contains (names ++ name ∷ []) n × (Contains base n → ⊥)).
+          ⊎_elim (λ (k : Contains names n). inr (k, h.1)) (λ (now : name ≡ n). absurd (h.1 (subst (Contains base) now known))) (Contains-push_cases names name n h.0))
+          either),
     );
     few = omega (arith, added.few, length-append names (name ∷ []));
   }
@@ -35,17 +35,17 @@ module _ {base names old new : List ℕ} (name : ℕ) (added : AreAdded base nam
   AreAdded-more unknown = record {
     members = λ n. (
       λ h. ⊎_elim
-        (λ (k : Contains new n). earlier n ((added.members n).0 k))
-        (λ (now : name ≡ n). subst (λ m. Contains old m ⊎ (Contains (names ++ name ∷ []) m × (Contains base m → ⊥))) now (inr (Contains-push names name, unknown)))
-        (Contains-push_cases new name n h),
+          (λ (k : Contains new n). earlier n ((added.members n).0 k))
+          (λ (now : name ≡ n). subst (λ m. Contains old m ⊎ (Contains (names ++ name ∷ []) m × (Contains base m → ⊥))) now (inr (Contains-push names name, unknown)))
+          (Contains-push_cases new name n h),
       λ either. ⊎_elim
-        (λ (h : Contains old n). Contains-append_left new (name ∷ []) n ((added.members n).1 (inl h)))
-        (λ (h : Contains (names ++ name ∷ []) n × (Contains base n → ⊥)).
-        ⊎_elim
-        (λ (k : Contains names n). Contains-append_left new (name ∷ []) n ((added.members n).1 (inr (k, h.1))))
-        (λ (now : name ≡ n). subst (Contains (new ++ name ∷ [])) now (Contains-push new name))
-        (Contains-push_cases names name n h.0))
-        either,
+          (λ (h : Contains old n). Contains-append_left new (name ∷ []) n ((added.members n).1 (inl h)))
+          (λ (h : Contains (names ++ name ∷ []) n × (Contains base n → ⊥)).
+          ⊎_elim
+          (λ (k : Contains names n). Contains-append_left new (name ∷ []) n ((added.members n).1 (inr (k, h.1))))
+          (λ (now : name ≡ n). subst (Contains (new ++ name ∷ [])) now (Contains-push new name))
+          (Contains-push_cases names name n h.0))
+          either,
     );
     few = omega (arith, added.few, length-append names (name ∷ []), length-append new (name ∷ []));
   }
@@ -79,16 +79,16 @@ IsNewOf-from_added {table} {base} {outputs} {externals} {none} {first} {both} {n
   rising = order.rising;
   members = λ n. (
     λ h. ⊎_elim
-      (λ (in_first : Contains first n). ⊎_elim
+        (λ (in_first : Contains first n). ⊎_elim
         (λ (in_none : Contains none n). let within = (subst (λ xs. Contains xs n) empty in_none).1 in absurd (omega arith))
         (λ (k : Contains outputs n × (Contains base n → ⊥)). (inl k.0, k.1))
         ((one.members n).0 in_first))
-      (λ (k : Contains externals n × (Contains base n → ⊥)). (inr k.0, k.1))
-      ((two.members n).0 ((order.members n).0 h)),
+        (λ (k : Contains externals n × (Contains base n → ⊥)). (inr k.0, k.1))
+        ((two.members n).0 ((order.members n).0 h)),
     λ h. (order.members n).1 ((two.members n).1 (⊎_elim
-      (λ (k : Contains outputs n). inl ((one.members n).1 (inr (k, h.1))))
-      (λ (k : Contains externals n). inr (k, h.1))
-      h.0)),
+        (λ (k : Contains outputs n). inl ((one.members n).1 (inr (k, h.1))))
+        (λ (k : Contains externals n). inr (k, h.1))
+        h.0)),
   );
   few = omega (arith, order.few, two.few, one.few, ap length empty);
 }

@@ -1,5 +1,5 @@
 -- What the new names of atoms are, where they are added to a base.
-use Rattle.std.proofs.Common.{◌≡◌, ◌≢◌, ℕ, ◌<◌, List, ◌++◌, Some, length, map, get_or, ap, ◌∙◌, sym, subst, arith, ⊎_elim, inl, inr, true, Less, Equal}
+use Rattle.std.proofs.Common.{◌≡◌, ◌≢◌, ℕ, ◌<◌, List, ◌++◌, length, map, get_or, sym, subst, arith, ⊎_elim, inl, inr, true, Less, Equal}
 use Rattle.std.proofs.lemmas.Cmp.{tied_itself}
 use Rattle.std.proofs.lemmas.List.{get_or-map, length-map}
 use Rattle.std.proofs.lemmas.List.Elements.{Contains-append_left, Contains-append_right, Contains-get_or}
@@ -43,9 +43,9 @@ heads_there table instances old names headed are k d within x e =
     (λ (unknown : Contains old x → ⊥).
     Contains-append_right old names x ((are.members x).1 (
       ⊎_elim
-      (λ (out : gives_head i.kind ≡ true). inl (to_heads gives_head instances i x listed out e))
-      (λ (ext : gives_external i.kind ≡ true). inr (to_heads gives_external instances i x listed ext e))
-      (either_kind i.kind i.head x (headed k d within) e),
+          (λ (out : gives_head i.kind ≡ true). inl (to_heads gives_head instances i x listed out e))
+          (λ (ext : gives_external i.kind ≡ true). inr (to_heads gives_external instances i x listed ext e))
+          (either_kind i.kind i.head x (headed k d within) e),
       unknown,
     )))
     (in_or_not old x)

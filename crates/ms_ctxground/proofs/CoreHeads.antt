@@ -1,5 +1,5 @@
 -- Core rules have a head exactly where they are no constraint.
-use Rattle.std.proofs.Common.{ℕ, List, [], ◌∷◌, ◌++◌, Bool, true, false, Option, Some, None, refl, map}
+use Rattle.std.proofs.Common.{List, [], ◌∷◌, Bool, true, false, Option, Some, None, refl, map}
 use Rattle.std.proofs.lemmas.List.Elements.{All-nil, All-cons, All-append, All-map}
 use Rattle.std.specs.List.{All, flat_map}
 use Rattle.ms_grammar.specs.declared.statement.TextGuard.{TextGuard}
@@ -14,7 +14,7 @@ use Rattle.ms_core.specs.declared.rule.CoreRule.{CoreRule}
 use Rattle.ms_core.specs.CoreRules.{bound, core_choice, core_rules}
 use Rattle.ms_core.specs.Pools.{form_copies}
 use Rattle.ms_core.specs.Replacing.{Meaning, replaced_form}
-use Rattle.ms_core.specs.Texts.{Texts, PartName, core_of_call, core_of_form, core_where, is_part, meaning_of}
+use Rattle.ms_core.specs.Texts.{Texts, PartName, core_of_call, core_of_form, core_where, meaning_of}
 use Rattle.ms_call.specs.declared.command.Call.{Call}
 use Rattle.ms_instances.specs.Naming.{IsHeadedRule}
 use Rattle.ms_ctxground.specs.Grounds.{core_of_calls}

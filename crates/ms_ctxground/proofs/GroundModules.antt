@@ -1,11 +1,10 @@
 -- The ground module of instances, from its parts.
-use Rattle.std.proofs.Common.{◌≡◌, ◌≢◌, ℕ, ◌+◌, ◌-◌, ◌<◌, ◌≤◌, List, ◌++◌, Option, Some, None, Bool, true, length, length-append, map, get_or, eqb, refl, sym, ap, ◌∙◌, subst, arith, ⊎_elim, inl, inr, ◌⊎◌}
-use Rattle.std.proofs.lemmas.List.{length-map, map-append, get_or-map, get_or-append_right}
-use Rattle.std.proofs.lemmas.List.Elements.{All-append, All-contains, Contains-append_left, Contains-append_right, Contains-get_or}
+use Rattle.std.proofs.Common.{◌≡◌, ℕ, ◌+◌, ◌-◌, ◌<◌, ◌≤◌, List, ◌++◌, Option, Some, None, true, length, length-append, map, get_or, refl, sym, ◌∙◌, subst, arith, ⊎_elim, inl, inr, ◌⊎◌}
+use Rattle.std.proofs.lemmas.List.{length-map, map-append, get_or-append_right}
+use Rattle.std.proofs.lemmas.List.Elements.{All-append, All-contains, Contains-get_or}
 use Rattle.std.proofs.lemmas.Option.{slice_get_within, slice_get-get_or}
-use Rattle.std.specs.Prelude.{◌↔◌, IsSomeAnd, IfSome}
-use Rattle.std.specs.List.{All, AllPairs, Any, Contains, filter_map, slice_get}
-use Rattle.std.specs.Option.{ForSome}
+use Rattle.std.specs.Prelude.{IsSomeAnd, IfSome}
+use Rattle.std.specs.List.{All, Contains, filter_map, slice_get}
 use Rattle.ms_tree.specs.Tree.{Tree}
 use Rattle.ms_term.specs.Terms.{term_at, AllDifferent}
 use Rattle.ms_core.specs.declared.rule.RuleKind.{RuleKind}
@@ -15,20 +14,19 @@ use Rattle.ms_join.specs.declared.ground_rule.GroundKind.{GroundKind}
 use Rattle.ms_join.specs.declared.ground_rule.GroundKind.TheVariants.{Normal as normal, Choice as choice, Constraint as constraint}
 use Rattle.ms_join.specs.declared.ground_module.GroundModule.{GroundModule}
 use Rattle.ms_join.specs.AnswerSets.{HasHead, IsAtomSet, IsRuleOver}
-use Rattle.ms_join.specs.Modules.{IsWellFormed}
 use Rattle.ms_copies.specs.Grounding.{gives_head, gives_external}
 use Rattle.ms_copies.specs.Simplifying.{ground_kind, AreNumbers}
 use Rattle.ms_instances.specs.declared.instance.Instance.{Instance}
-use Rattle.ms_instances.specs.Instances.{said_by, AreNewBy, IsHeadAmong, IsHeaded, IsKnownBy, IsModuleBy}
+use Rattle.ms_instances.specs.Instances.{said_by, AreNewBy, IsHeadAmong, IsHeaded, IsModuleBy}
 use Rattle.ms_ctxground.specs.Numbering.{AreNumbersOf, IsNumberOfHead}
 use Rattle.ms_ctxground.specs.LeftRules.{AreLeftInOrder, IsLeftBy}
 use Rattle.ms_ctxground.specs.NewAtoms.{head_of, IsNewOf}
 use Rattle.ms_instances.specs.Naming.{IsNamed}
 use Rattle.ms_ctxground.specs.Growing.{IsGrownBy}
-use Rattle.ms_ctxground.proofs.Heads.{from_heads, to_heads, heads_below, among_from_heads, heads_from_among}
+use Rattle.ms_ctxground.proofs.Heads.{to_heads, heads_below, among_from_heads, heads_from_among}
 use Rattle.ms_ctxground.proofs.Members.{Contains-map, Contains-from_map}
 use Rattle.ms_ctxground.proofs.NamedTerms.{left_in_terms, numbers_of_terms, one_of_names}
-use Rattle.ms_ctxground.proofs.Numbered.{from_some_and, some_and, Contains-from_slice_get}
+use Rattle.ms_ctxground.proofs.Numbered.{from_some_and, some_and}
 
 -- ---- numbers
 
@@ -91,7 +89,6 @@ module _ (table : List Tree) (different : AllDifferent table) (instances : List 
     (named : All (IsNamed (length table)) instances)
     (headed : All (λ i. IsHeaded i.kind i.head) instances)
     (are_new : IsNewOf table old (outputs_of instances) (externals_of instances) m.names) where
-
   abbrev new : List ℕ
   new = old ++ m.names
 
@@ -116,17 +113,16 @@ module _ (table : List Tree) (different : AllDifferent table) (instances : List 
     members = λ t. (
       λ h.
           let (n, listed, alike) = Contains-from_map (term_at table) m.names t h in
-          let (among, lacks) = (are_new.members n).0 listed in
-          (
+          let (among, lacks) = (are_new.members n).0 listed in (
             inr (⊎_elim
-              (λ (k : Contains (outputs_of instances) n). inl (among_from_heads gives_head table instances t (subst (Contains (map (term_at table) (outputs_of instances))) alike (Contains-map (term_at table) (outputs_of instances) n k))))
-              (λ (k : Contains (externals_of instances) n). inr (among_from_heads gives_external table instances t (subst (Contains (map (term_at table) (externals_of instances))) alike (Contains-map (term_at table) (externals_of instances) n k))))
-              among),
+                (λ (k : Contains (outputs_of instances) n). inl (among_from_heads gives_head table instances t (subst (Contains (map (term_at table) (outputs_of instances))) alike (Contains-map (term_at table) (outputs_of instances) n k))))
+                (λ (k : Contains (externals_of instances) n). inr (among_from_heads gives_external table instances t (subst (Contains (map (term_at table) (externals_of instances))) alike (Contains-map (term_at table) (externals_of instances) n k))))
+                among),
             λ known. lacks (one_of_names table different old old_below n (All-contains (λ k. k < length table) m.names n names_below listed) (subst (Contains (map (term_at table) old)) (sym alike) known)),
           ),
       λ h. ⊎_elim
-        (λ (k : Contains (map (term_at table) old) t). absurd (h.1 k))
-        (λ (k : IsHeadAmong gives_head (map (said_by table) instances) t ⊎ IsHeadAmong gives_external (map (said_by table) instances) t). ⊎_elim
+          (λ (k : Contains (map (term_at table) old) t). absurd (h.1 k))
+          (λ (k : IsHeadAmong gives_head (map (said_by table) instances) t ⊎ IsHeadAmong gives_external (map (said_by table) instances) t). ⊎_elim
           (λ (out : IsHeadAmong gives_head (map (said_by table) instances) t).
           let (n, listed, alike) = Contains-from_map (term_at table) (outputs_of instances) t (heads_from_among gives_head table instances t out) in
           to_new t n (inl listed) alike h.1)
@@ -134,7 +130,7 @@ module _ (table : List Tree) (different : AllDifferent table) (instances : List 
           let (n, listed, alike) = Contains-from_map (term_at table) (externals_of instances) t (heads_from_among gives_external table instances t ext) in
           to_new t n (inr listed) alike h.1)
           k)
-        h.0,
+          h.0,
     );
   }
 
@@ -142,7 +138,6 @@ module _ (table : List Tree) (different : AllDifferent table) (instances : List 
       (heads_are : AreNumbersOf new (outputs_of instances) m.heads)
       (externals_are : AreNumbersOf new (externals_of instances) m.externals)
       (first_is : m.first_new ≡ length old) (fresh_is : m.fresh ≡ length m.names) where
-
     atoms_are : map (term_at table) new ≡ map (term_at table) old ++ map (term_at table) m.names
     atoms_are = map-append (term_at table) old m.names
 

@@ -1,8 +1,8 @@
 -- The heads of instances, by their names and by their terms.
-use Rattle.std.proofs.Common.{◌≡◌, ◌≢◌, ℕ, ◌<◌, ◌≤◌, suc, List, [], ◌∷◌, ◌++◌, Option, Some, None, Bool, true, false, length, map, get_or, refl, sym, ap, ◌∙◌, subst, arith, ⊎_elim, inl, inr, ◌⊎◌, if◌then◌else◌}
+use Rattle.std.proofs.Common.{◌≡◌, ℕ, ◌<◌, ◌≤◌, suc, List, [], ◌∷◌, Option, Some, None, Bool, true, false, length, map, get_or, refl, ap, ◌∙◌, subst, arith, if◌then◌else◌}
 use Rattle.std.proofs.lemmas.List.Elements.{All-contains, Contains-get_or}
 use Rattle.std.specs.Prelude.{IfSome, option_map}
-use Rattle.std.specs.List.{All, Any, Contains, cons_option, filter_map}
+use Rattle.std.specs.List.{All, Contains, cons_option, filter_map}
 use Rattle.ms_tree.specs.Tree.{Tree}
 use Rattle.ms_term.specs.Terms.{term_at}
 use Rattle.ms_core.specs.declared.rule.RuleKind.{RuleKind}

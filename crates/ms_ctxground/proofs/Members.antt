@@ -66,7 +66,7 @@ in_or_not (x ∷ xs) n =
     ⊎_elim
     (λ (same : x ≡ n). inl (0, omega arith, same))
     (λ (apart : x ≡ n → ⊥). ⊎_elim
-      (λ (later : Contains xs n). inl (Contains-next x xs n later))
-      (λ (nowhere : Contains xs n → ⊥). inr (not_cons x xs n apart nowhere))
-      (in_or_not xs n))
+    (λ (later : Contains xs n). inl (Contains-next x xs n later))
+    (λ (nowhere : Contains xs n → ⊥). inr (not_cons x xs n apart nowhere))
+    (in_or_not xs n))
     (same_or_not x n (eqb x n) refl)

@@ -1,21 +1,20 @@
 -- What names say in a base of names, their terms say in the base of terms, since equal terms have equal names.
-use Rattle.std.proofs.Common.{◌≡◌, ℕ, ◌<◌, List, [], ◌∷◌, Option, Some, None, length, map, refl, sym, ap, ◌∙◌, subst, Bool, true, get_or}
+use Rattle.std.proofs.Common.{◌≡◌, ℕ, ◌<◌, List, Option, Some, None, length, map, refl, ap, ◌∙◌, subst, get_or}
 use Rattle.std.proofs.lemmas.List.Elements.{All-contains, All-map, Contains-get_or}
 use Rattle.std.proofs.lemmas.Option.{slice_get-map}
-use Rattle.std.specs.Prelude.{◌↔◌, IsSomeAnd, option_map}
+use Rattle.std.specs.Prelude.{IsSomeAnd, option_map}
 use Rattle.std.specs.List.{All, Any, Contains, slice_get}
-use Rattle.std.specs.List.Sorted.{IsStrictlyIncreasing}
 use Rattle.ms_tree.specs.Tree.{Tree}
 use Rattle.ms_term.specs.Terms.{term_at, AllDifferent}
 use Rattle.ms_join.specs.declared.ground_rule.GroundRule.{GroundRule}
 use Rattle.ms_join.specs.declared.ground_rule.GroundKind.{GroundKind}
 use Rattle.ms_copies.specs.Simplifying.{ground_kind, AreNumbers, IsNumbered}
 use Rattle.ms_instances.specs.declared.instance.Instance.{Instance}
-use Rattle.ms_instances.specs.Instances.{Said, said_by, Leaves, AreLeftBy}
+use Rattle.ms_instances.specs.Instances.{said_by, Leaves, AreLeftBy}
 use Rattle.ms_ctxground.specs.Numbering.{AreNumbersOf, IsNumberOfHead}
-use Rattle.ms_ctxground.specs.LeftRules.{IsLeftBy, MustLeave, AreAllLeft, AreLeftInOrder}
+use Rattle.ms_ctxground.specs.LeftRules.{IsLeftBy, AreLeftInOrder}
 use Rattle.ms_instances.specs.Naming.{IsNamed}
-use Rattle.ms_ctxground.proofs.Members.{Contains-map, Contains-from_map, Any-map, Any-from_map}
+use Rattle.ms_ctxground.proofs.Members.{Contains-map, Contains-from_map, Any-map}
 use Rattle.ms_ctxground.proofs.Numbered.{some_and, from_some_and, Contains-from_slice_get}
 
 module _ (table : List Tree) (different : AllDifferent table) where
@@ -56,6 +55,7 @@ module _ (table : List Tree) (different : AllDifferent table) where
       λ h. (are.members a).1 (back base names base_below below a (slice_get base a) refl (subst (λ o. IsSomeAnd o (Contains (map tree_of names))) (slice_get-map tree_of base a) h)),
     );
   }
+
   head_of_term : (base : List ℕ) (head number : Option ℕ) → IsNumberOfHead base head number → IsNumbered (map tree_of base) (option_map tree_of head) number
   head_of_term base None number is = is
   head_of_term base (Some n) number is =

@@ -1,19 +1,18 @@
 -- What grounding of rules without aggregates answers.
-use Rattle.std.proofs.Common.{◌≡◌, ℕ, ◌<◌, ◌≤◌, List, [], ◌∷◌, ◌++◌, length, map, get_or, refl, sym, ap, ◌∙◌, subst, arith, ⊎_elim, inl, inr}
+use Rattle.std.proofs.Common.{◌≡◌, ℕ, ◌<◌, ◌≤◌, List, [], ◌∷◌, length, map, get_or, refl, sym, ap, subst, arith, ⊎_elim, inl, inr}
 use Rattle.std.proofs.lemmas.List.{length-map}
 use Rattle.std.proofs.lemmas.List.Elements.{All-head, All-tail, All-map, All-append, Contains-get_or}
 use Rattle.std.specs.Prelude.{Result, Ok, Err, IsErrAnd}
-use Rattle.std.specs.List.{All, Any, Contains}
+use Rattle.std.specs.List.{All}
 use Rattle.ms_tree.specs.Tree.{Tree}
 use Rattle.ms_tree.specs.Size.{tree_size}
 use Rattle.ms_term.specs.Terms.{term_at}
 use Rattle.ms_core.specs.declared.rule.CoreRule.{CoreRule}
 use Rattle.ms_join.specs.declared.ground_module.GroundModule.{GroundModule}
-use Rattle.ms_copies.specs.Grounding.{IsKnown}
 use Rattle.ms_copies.specs.Limits.{most_copies, most_symbols, HasTooManyCopies, HasLargeAtom, IsTooLarge}
 use Rattle.ms_value.specs.Naming.{Keeps}
 use Rattle.ms_instances.specs.declared.instance.Instance.{Instance}
-use Rattle.ms_instances.specs.Instances.{Said, said_by, IsHeaded, IsKnownBy, IsModuleBy}
+use Rattle.ms_instances.specs.Instances.{said_by, IsHeaded, IsKnownBy, IsModuleBy}
 use Rattle.ms_instances.specs.Listing.{all_said}
 use Rattle.ms_instances.specs.declared.fault.InstanceFault.{InstanceFault}
 use Rattle.ms_instances.specs.declared.fault.InstanceFault.TheVariants.{TooMany, OutOfMemory}
@@ -25,7 +24,7 @@ use Rattle.ms_ctxground.specs.Faults.{fault_of}
 use Rattle.ms_ctxground.specs.declared.fault.GroundFault.{GroundFault}
 use Rattle.ms_ctxground.specs.Growing.{IsGrownBy}
 use Rattle.ms_ctxground.specs.Sizes.{HasLargeHead}
-use Rattle.ms_ctxground.proofs.Members.{Contains-map, Contains-from_map}
+use Rattle.ms_ctxground.proofs.Members.{Contains-map}
 use Rattle.ms_ctxground.proofs.Sized.{small_known, large_known}
 
 -- names of the old table stand for the same terms in the new one
@@ -85,8 +84,8 @@ module _ {rules : List CoreRule} {old_table new_table : List Tree} {list : List 
     pub is_ground : {new : List ℕ} {m : GroundModule} → IsGrownBy new_table list old new m → IsGround rules old_table new_table old new m
     is_ground {new} {m} grown =
         let by_names : IsModuleBy old_terms (all_said rules) (map (term_at new_table) m.names) m =
-            subst (λ said. IsModuleBy old_terms said (map (term_at new_table) m.names) m) are.are.say
-            (subst (λ ts. IsModuleBy ts (map (said_by new_table) list) (map (term_at new_table) m.names) m) (same_terms are.keeps old base.named) grown.is) in
+        subst (λ said. IsModuleBy old_terms said (map (term_at new_table) m.names) m) are.are.say
+        (subst (λ ts. IsModuleBy ts (map (said_by new_table) list) (map (term_at new_table) m.names) m) (same_terms are.keeps old base.named) grown.is) in
         record {
           keeps = are.keeps;
           fits = fits;

@@ -1,9 +1,9 @@
 -- The sizes of known atoms.
-use Rattle.std.proofs.Common.{◌≡◌, ℕ, ◌<◌, ◌≤◌, List, Option, Some, None, length, map, refl, sym, ap, ◌∙◌, subst, arith, ⊎_elim, inl, inr, ◌⊎◌, Bool, true}
+use Rattle.std.proofs.Common.{◌≡◌, ◌<◌, ◌≤◌, List, Some, map, sym, ap, subst, ⊎_elim, inl, inr, ◌⊎◌, Bool, true}
 use Rattle.std.proofs.lemmas.Bool.{cases_lt}
 use Rattle.std.proofs.lemmas.List.Elements.{All-contains}
 use Rattle.std.specs.Prelude.{option_map}
-use Rattle.std.specs.List.{All, Any, Contains}
+use Rattle.std.specs.List.{All, Contains}
 use Rattle.ms_tree.specs.Tree.{Tree}
 use Rattle.ms_tree.specs.Size.{tree_size}
 use Rattle.ms_term.specs.Terms.{term_at}
@@ -12,7 +12,7 @@ use Rattle.ms_copies.specs.Grounding.{gives_head, gives_external}
 use Rattle.ms_copies.specs.Limits.{most_symbols}
 use Rattle.ms_instances.specs.declared.instance.Instance.{Instance}
 use Rattle.ms_instances.specs.Instances.{said_by, IsHeadAmong, IsHeaded, IsKnownBy}
-use Rattle.ms_ctxground.specs.Sizes.{IsLargeHead, HasLargeHead}
+use Rattle.ms_ctxground.specs.Sizes.{HasLargeHead}
 use Rattle.ms_ctxground.proofs.GroundModules.{either_kind}
 use Rattle.ms_ctxground.proofs.Heads.{mapped_some}
 use Rattle.ms_ctxground.proofs.Members.{Any-map, Any-from_map}
@@ -45,12 +45,11 @@ module _ (table : List Tree) (instances : List Instance) where
   large_known base headed (k, i, within, at, is) =
       let (n, large, head_is) = from_some_and (λ m. most_symbols < tree_size (term_at table m)) i.head is in
       let is_headed = All-contains (λ j. IsHeaded j.kind j.head) instances i headed (k, within, at) in
-      let named : option_map (term_at table) i.head ≡ Some (term_at table n) = ap (option_map (term_at table)) head_is in
-      (
+      let named : option_map (term_at table) i.head ≡ Some (term_at table n) = ap (option_map (term_at table)) head_is in (
         term_at table n,
         inr (⊎_elim
-          (λ (out : gives_head i.kind ≡ true). inl (Any-map (said_by table) (λ s. (gives_head s.kind ≡ true) × (s.head ≡ Some (term_at table n))) instances i (k, within, at) (out, named)))
-          (λ (ext : gives_external i.kind ≡ true). inr (Any-map (said_by table) (λ s. (gives_external s.kind ≡ true) × (s.head ≡ Some (term_at table n))) instances i (k, within, at) (ext, named)))
-          (either_kind i.kind i.head n is_headed head_is)),
+            (λ (out : gives_head i.kind ≡ true). inl (Any-map (said_by table) (λ s. (gives_head s.kind ≡ true) × (s.head ≡ Some (term_at table n))) instances i (k, within, at) (out, named)))
+            (λ (ext : gives_external i.kind ≡ true). inr (Any-map (said_by table) (λ s. (gives_external s.kind ≡ true) × (s.head ≡ Some (term_at table n))) instances i (k, within, at) (ext, named)))
+            (either_kind i.kind i.head n is_headed head_is)),
         large,
       )

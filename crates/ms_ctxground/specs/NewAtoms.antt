@@ -1,5 +1,5 @@
 -- The names of atoms, in term order.
-use Rattle.std.specs.Prelude.{ℕ, ◌≡◌, ◌↔◌, ◌+◌, ◌<◌, ◌≤◌, ◌⊎◌, List, Option, Some, None, if◌then◌else◌, Bool, Contains, length, map}
+use Rattle.std.specs.Prelude.{ℕ, ◌↔◌, ◌+◌, ◌≤◌, ◌⊎◌, List, Option, None, if◌then◌else◌, Bool, Contains, length, map}
 use Rattle.std.specs.List.Sorted.{IsStrictlySortedBy}
 use Rattle.ms_tree.specs.Tree.{Tree}
 use Rattle.ms_tree.specs.Order.{compare_trees}

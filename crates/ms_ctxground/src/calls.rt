@@ -35,11 +35,7 @@ pub fn ground(
 }
 
 /// The core rules of the calls, one call after the other.
-fn core_rules(
-    alloc: Global,
-    parts: &Parts,
-    calls: &[Call],
-) -> Result<Vec<CoreRule>, OutOfMemory>
+fn core_rules(alloc: Global, parts: &Parts, calls: &[Call]) -> Result<Vec<CoreRule>, OutOfMemory>
     ensures { IfOk result (λ rules. rules.items ≡ core_of_calls parts.now calls.now) }
 {
     let mut rules = Vec::new(alloc);

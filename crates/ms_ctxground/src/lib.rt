@@ -12,7 +12,7 @@ mod size;
 #[cfg(test)]
 mod tests;
 
-pub use fault::GroundFault;
 pub use calls::ground;
-pub use size::has_large_head;
+pub use fault::GroundFault;
 pub use ms_term::{OutOfMemory, TermId, Terms};
+pub use size::has_large_head;

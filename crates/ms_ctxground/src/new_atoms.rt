@@ -79,11 +79,7 @@ pub(crate) fn new_names(
 }
 
 /// Appends those of the names that the base lacks.
-fn add_unknown(
-    base: &AtomBase,
-    names: &[TermId],
-    into: &mut Vec<TermId>,
-) -> Result<(), OutOfMemory>
+fn add_unknown(base: &AtomBase, names: &[TermId], into: &mut Vec<TermId>) -> Result<(), OutOfMemory>
     ensures { OnOk result (AreAdded base.now names.now into.old.items into.new.items) }
 {
     for name in names {

@@ -1,6 +1,3 @@
-use Rattle.std.proofs.Common.{◌∙◌}
-use Rattle.ms_term.specs.Terms.{trees}
-use Rattle.ms_ctxground.specs.Grounds.{core_of_calls, HasAggregates, Grounds}
 use Rattle.ms_ctxground.proofs.CoreHeads.{calls_headed}
 use Rattle.ms_ctxground.proofs.calls.ground.Goals as goal
 

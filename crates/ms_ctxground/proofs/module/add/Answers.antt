@@ -1,6 +1,4 @@
-use Rattle.std.proofs.Common.{◌++◌, ap, ◌∙◌, sym}
 use Rattle.std.proofs.lemmas.List.{append_assoc}
-use Rattle.std.specs.List.{Contains}
 use Rattle.ms_ctxground.proofs.Front.{take_read, absent_at}
 use Rattle.ms_ctxground.proofs.module.add.Goals as goal
 

@@ -1,4 +1,4 @@
-use Rattle.std.proofs.Common.{◌≡◌, true, sym, ◌∙◌}
+use Rattle.std.proofs.Common.{◌≡◌, true}
 use Rattle.ms_term.specs.Terms.{trees}
 use Rattle.ms_ctxground.specs.Sizes.{HasLargeHead}
 use Rattle.ms_ctxground.proofs.PlainRules.{answer_from, refused_head, is_ground}
@@ -15,6 +15,6 @@ returns-then-has_large_head c =
 pub returns : goal.returns
 returns c =
     let none : HasLargeHead (trees c.instances.new.terms) c.in_ok-instances.instances → ⊥ = λ large.
-        let is_large : c.has_large_head.result ≡ true = c.has_large_head.ensures.1 (rw c.as_slice.ensures large) in
-        cc in
+    let is_large : c.has_large_head.result ≡ true = c.has_large_head.ensures.1 (rw c.as_slice.ensures large) in
+    cc in
     is_ground c.requires.plain c.requires.headed c.requires.base c.in_ok-instances.ensures.ok none (rw c.as_slice-2.ensures at c.in_ok-module_of.ensures.ok)
