@@ -1,6 +1,6 @@
 -- Inputs that come and go one at a time.
-use Rattle.std.proofs.Common.{◌≡◌, ◌≢◌, ◌↔◌, ℕ, ◌+◌, ◌<◌, ◌≤◌, ◌⊎◌, inl, inr, Bool, false, Option, Some, List, [], ◌∷◌, ◌++◌, length, get_or, take, refl, sym, ap, ◌∙◌, subst, arith, Contains}
-use Rattle.std.specs.List.{Any, AllPairs, All}
+use Rattle.std.proofs.Common.{◌≡◌, ℕ, ◌+◌, ◌<◌, ◌≤◌, inl, inr, false, Some, List, [], ◌∷◌, ◌++◌, length, get_or, take, refl, sym, ap, ◌∙◌, subst, arith, Contains}
+use Rattle.std.specs.List.{All}
 use Rattle.std.specs.List.Sorted.{IsStrictlyIncreasing}
 use Rattle.std.proofs.lemmas.List.{take_more, get_or-take, length-take}
 use Rattle.std.proofs.lemmas.List.Elements.{All-contains, Contains-append_left, Contains-push, Contains-push_cases}
@@ -8,7 +8,7 @@ use Rattle.std.proofs.lemmas.List.Kept.{AllPairs-from_increasing}
 use Rattle.ms_join.specs.declared.ground_rule.Input.{Input}
 use Rattle.ms_join.specs.declared.truth.Effect.{Effect}
 use Rattle.ms_join.specs.declared.truth.Effect.TheVariants.{Done, NoEffect}
-use Rattle.ms_join.specs.Modules.{Join, IsInput, IsReleased}
+use Rattle.ms_join.specs.Modules.{Join, IsInput}
 use Rattle.ms_module.specs.Inputs.{Releases, Declares, Withdraws}
 
 -- the atoms of a loop and the next one

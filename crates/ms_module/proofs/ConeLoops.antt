@@ -1,6 +1,6 @@
 -- Loops in a cone are loops across modules.
 use Rattle.std.proofs.Common.{◌≡◌, ◌↔◌, ℕ, ◌+◌, ◌<◌, ◌≤◌, ◌⊎◌, inl, inr, Bool, true, false, nat_eq, nat_lt, Option, Some, None, IfSome, List, [], ◌∷◌, ◌++◌, length, get_or, take, refl, sym, ap, ◌∙◌, subst, arith, length-append, Contains, if◌then◌else◌, IsTrue}
-use Rattle.std.specs.List.{Any, All, position, position_or_len, list_any}
+use Rattle.std.specs.List.{Any, All, position_or_len, list_any}
 use Rattle.std.specs.Option.{option_map, option_eq}
 use Rattle.std.proofs.lemmas.Bool.{cases_lt, cond-true, lt-ltb, false≢true}
 use Rattle.std.proofs.lemmas.Bool.Decides.{Decides-eqb}
@@ -14,17 +14,15 @@ use Rattle.indexmap.proofs.CallerLemmas.{Contains-list_any}
 use Rattle.ms_module.proofs.Changes.{next_atom}
 use Rattle.std.proofs.lemmas.List.Sums.{fails_before_first}
 use Rattle.ms_tree.specs.Tree.{Tree}
-use Rattle.ms_join.specs.declared.ground_rule.GroundRule.{GroundRule}
 use Rattle.ms_join.specs.declared.ground_module.GroundModule.{GroundModule}
 use Rattle.ms_join.specs.AnswerSets.{IsRuleOver}
 use Rattle.ms_join.specs.Modules.{Join, IsJoin, IsOutput, IsWellFormed}
-use Rattle.ms_join.specs.Dependencies.{Reaches, AreTogether}
 use Rattle.ms_join.specs.Composability.{IsInLoop, IsLeast, LoopsWith}
 use Rattle.ms_cone.specs.Cones.{Numbered, number_of, IsCone}
-use Rattle.ms_cone.specs.Uses.{Keeps, HaveHeadsBelow, IsFor}
+use Rattle.ms_cone.specs.Uses.{Keeps, HaveHeadsBelow}
 use Rattle.ms_cone.specs.declared.uses.Use.{Use}
 use Rattle.ms_cone.proofs.Members.{member_of, contains_at}
-use Rattle.ms_cone.proofs.CrossLoops.{IsOldHead, ReachesOldHead, loop_reaches_old_head}
+use Rattle.ms_cone.proofs.CrossLoops.{ReachesOldHead, loop_reaches_old_head}
 use Rattle.ms_module.specs.declared.loops.CrossLoop.{CrossLoop}
 use Rattle.ms_module.specs.Faults.{AreThose, AreNumbersOf, HasNumber, HasNumberAmong, LoopsInCone, IsInConeLoop, FindsInCone, FindsLoop}
 use Rattle.ms_module.proofs.Leasts.{least_of}

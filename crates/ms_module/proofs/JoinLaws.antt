@@ -1,10 +1,10 @@
 -- Joins stay joins.
-use Rattle.std.proofs.Common.{◌≡◌, ◌≢◌, ◌↔◌, ℕ, ◌+◌, ◌^◌, ◌<◌, ◌≤◌, ◌⊎◌, inl, inr, Bool, Option, Some, None, IfSome, List, [], ◌∷◌, ◌++◌, length, get_or, refl, sym, ap, ◌∙◌, subst, arith, Contains}
+use Rattle.std.proofs.Common.{◌≡◌, ℕ, ◌+◌, ◌^◌, ◌<◌, ◌≤◌, inl, inr, Bool, Option, Some, None, IfSome, List, [], ◌++◌, get_or, refl, sym, ap, ◌∙◌, subst, arith, Contains}
 use Rattle.std.specs.Bool.{⊤}
-use Rattle.std.specs.List.{Any, AllPairs, All}
+use Rattle.std.specs.List.{All}
 use Rattle.std.proofs.lemmas.Bool.{cases_lt}
 use Rattle.std.proofs.lemmas.List.{append-nil}
-use Rattle.std.proofs.lemmas.List.Elements.{All-append, All-weaker, All-contains}
+use Rattle.std.proofs.lemmas.List.Elements.{All-append, All-weaker}
 use Rattle.ms_join.specs.declared.ground_rule.GroundRule.{GroundRule}
 use Rattle.ms_join.specs.declared.ground_rule.GroundKind.{GroundKind}
 use Rattle.ms_join.specs.declared.ground_rule.GroundKind.TheVariants.{Normal, Choice, Constraint}
@@ -12,9 +12,9 @@ use Rattle.ms_join.specs.declared.ground_rule.Input.{Input}
 use Rattle.ms_join.specs.declared.ground_module.GroundModule.{GroundModule}
 use Rattle.ms_join.specs.declared.truth.Effect.{Effect}
 use Rattle.ms_join.specs.declared.truth.Effect.TheVariants.{Done, NoEffect}
-use Rattle.ms_join.specs.AnswerSets.{HasHead, IsRuleOver, AreRulesOver}
-use Rattle.ms_join.specs.Composability.{Body, IsTooMany, HasTooMany, most_things}
-use Rattle.ms_join.specs.Modules.{Join, IsInput, IsJoin, IsJoined, IsWellFormed, IsAssigned, IsReleased, no_join, rules_of}
+use Rattle.ms_join.specs.AnswerSets.{HasHead, IsRuleOver}
+use Rattle.ms_join.specs.Composability.{Body, IsTooMany, most_things}
+use Rattle.ms_join.specs.Modules.{Join, IsInput, IsJoin, IsJoined, IsWellFormed, no_join}
 use Rattle.ms_cone.specs.declared.uses.Use.{Use}
 use Rattle.ms_cone.specs.Uses.{Keeps}
 use Rattle.ms_module.specs.Bodies.{AreBodiesOf, AddsBodies}

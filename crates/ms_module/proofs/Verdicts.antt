@@ -1,11 +1,11 @@
 -- What the parts of the test of a module say of it.
-use Rattle.std.proofs.Common.{◌≡◌, ◌↔◌, ℕ, ◌+◌, ◌<◌, Bool, true, false, IsTrue, Option, Some, None, List, [], ◌++◌, length, sym, ◌∙◌, ap, subst, arith, Contains}
+use Rattle.std.proofs.Common.{◌≡◌, ◌↔◌, ℕ, ◌+◌, Bool, true, false, IsTrue, Some, None, List, [], ◌++◌, sym, ◌∙◌, subst, arith, Contains}
 use Rattle.std.proofs.lemmas.Bool.{false≢true}
 use Rattle.ms_tree.specs.Tree.{Tree}
 use Rattle.ms_join.specs.declared.ground_rule.GroundRule.{GroundRule}
 use Rattle.ms_join.specs.declared.ground_module.GroundModule.{GroundModule}
 use Rattle.ms_join.specs.Modules.{Join, IsOutput}
-use Rattle.ms_join.specs.Composability.{HasTooMany, IsTooMany, IsRedefined, IsLeast, IsFirstRedefined, IsFirstLoop, IsComposable}
+use Rattle.ms_join.specs.Composability.{HasTooMany, IsTooMany, IsRedefined, IsLeast, IsFirstLoop, IsComposable}
 use Rattle.ms_module.specs.declared.loops.CrossLoop.{CrossLoop}
 use Rattle.ms_module.specs.Faults.{AreThose, FindsLoop}
 use Rattle.ms_module.proofs.Leasts.{least_of}

@@ -1,5 +1,5 @@
 -- The bodies of rules, where equal bodies are one.
-use Rattle.std.specs.Prelude.{ℕ, ◌≡◌, ◌≢◌, ◌⊎◌, ◌++◌, List, All, AllPairs, Any, Contains, length}
+use Rattle.std.specs.Prelude.{ℕ, ◌≡◌, ◌≢◌, ◌⊎◌, ◌++◌, List, AllPairs, Any, Contains, length}
 use Rattle.ms_join.specs.declared.ground_rule.GroundRule.{GroundRule}
 use Rattle.ms_join.specs.Composability.{Body, body_of}
 use Rattle.ms_module.specs.declared.bodies.BodyKey.{BodyKey}

@@ -1,5 +1,5 @@
 -- What the parts of the test of a module find.
-use Rattle.std.specs.Prelude.{ℕ, ◌≡◌, ◌↔◌, ◌<◌, List, Option, Some, None, Err, Any, Contains}
+use Rattle.std.specs.Prelude.{ℕ, ◌≡◌, ◌↔◌, List, Option, Some, None, Err, Any, Contains}
 use Rattle.ms_tree.specs.Tree.{Tree}
 use Rattle.ms_join.specs.declared.ground_module.GroundModule.{GroundModule}
 use Rattle.ms_join.specs.declared.join_fault.JoinFault.{JoinFault}

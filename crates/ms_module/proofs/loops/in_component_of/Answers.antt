@@ -1,4 +1,4 @@
-use Rattle.std.proofs.Common.{◌<◌, ◌≡◌, ◌↔◌, IsTrue, ℕ, subst}
+use Rattle.std.proofs.Common.{◌≡◌}
 use Rattle.ms_module.proofs.Chosen.{those_pushed, those_passed, those_whole}
 use Rattle.ms_cone.specs.Cones.{number_of}
 use Rattle.ms_module.proofs.loops.in_component_of.Goals as goal

@@ -1,4 +1,3 @@
-use Rattle.std.proofs.Common.{◌<◌, ◌≡◌, ◌↔◌, IsTrue, ℕ, subst}
 use Rattle.ms_module.proofs.Chosen.{those_pushed, those_passed, those_whole}
 use Rattle.ms_module.specs.Faults.{HasNumberAmong}
 use Rattle.ms_module.proofs.loops.with_number_among.Goals as goal

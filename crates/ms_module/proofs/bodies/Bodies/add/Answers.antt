@@ -1,7 +1,6 @@
-use Rattle.std.proofs.Common.{subst, sym, ap, ◌∙◌, ◌+◌, take, List, ◌∷◌, [], ◌++◌}
+use Rattle.std.proofs.Common.{subst, sym, List}
 use Rattle.ms_join.specs.declared.ground_rule.GroundRule.{GroundRule}
 use Rattle.ms_module.specs.Bodies.{AddsBodies}
-use Rattle.std.proofs.lemmas.List.{take_more}
 use Rattle.ms_module.proofs.BodyLaws.{AddsBodies-append, AddsBodies-none, next_rule}
 use Rattle.ms_module.proofs.bodies.Bodies.add.Goals as goal
 

@@ -1,4 +1,4 @@
-use Rattle.std.proofs.Common.{subst, List, take}
+use Rattle.std.proofs.Common.{subst, List}
 use Rattle.std.proofs.lemmas.List.{take_all}
 use Rattle.ms_join.specs.declared.ground_rule.GroundRule.{GroundRule}
 use Rattle.ms_module.specs.Bodies.{AreMissing}

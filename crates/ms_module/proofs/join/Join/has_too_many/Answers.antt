@@ -1,6 +1,4 @@
-use Rattle.std.proofs.Common.{◌↔◌, ◌<◌, ◌+◌, IsTrue, subst}
-use Rattle.ms_join.specs.Composability.{HasTooMany}
-use Rattle.ms_module.proofs.TooMany.{too_many, tells_many}
+use Rattle.ms_module.proofs.TooMany.{tells_many}
 use Rattle.ms_module.proofs.join.Join.has_too_many.Goals as goal
 
 pub returns : goal.returns

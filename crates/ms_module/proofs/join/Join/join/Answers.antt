@@ -1,4 +1,4 @@
-use Rattle.std.proofs.Common.{◌<◌, ◌+◌, ◌^◌, subst, sym, ap}
+use Rattle.std.proofs.Common.{◌<◌, ◌+◌, ◌^◌, subst, sym}
 use Rattle.ms_join.specs.Modules.{Join, IsWellFormed, IsJoined}
 use Rattle.ms_module.proofs.JoinLaws.{kept_joined, kept_reset, few_atoms}
 use Rattle.ms_module.proofs.join.Join.join.Goals as goal

@@ -1,4 +1,4 @@
-use Rattle.std.proofs.Common.{◌≤◌, ◌<◌, ◌≡◌, ◌↔◌, IsTrue, ℕ, subst}
+use Rattle.std.proofs.Common.{◌≤◌, ◌↔◌, IsTrue, ℕ, subst}
 use Rattle.ms_module.proofs.Chosen.{those_pushed, those_passed, those_whole}
 use Rattle.ms_join.specs.Modules.{Join, IsOutput}
 use Rattle.std.proofs.lemmas.Option.{slice_get_within, get_or_from_slice_get}

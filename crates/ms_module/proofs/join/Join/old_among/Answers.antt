@@ -1,4 +1,4 @@
-use Rattle.std.proofs.Common.{◌<◌, ◌≡◌, ◌↔◌, IsTrue, ℕ, subst}
+use Rattle.std.proofs.Common.{◌<◌, ◌↔◌, IsTrue, subst}
 use Rattle.ms_module.proofs.Chosen.{those_pushed, those_passed, those_whole}
 use Rattle.ms_join.specs.Modules.{Join}
 use Rattle.ms_module.proofs.join.Join.old_among.Goals as goal

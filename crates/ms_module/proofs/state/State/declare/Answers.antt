@@ -1,7 +1,7 @@
 use Rattle.std.proofs.Common.{take, subst, sym, List, ℕ, ◌≤◌, ◌<◌, ◌++◌, ◌∷◌, []}
 use Rattle.ms_join.specs.Modules.{Join, IsInput}
 use Rattle.ms_module.specs.Inputs.{Declares}
-use Rattle.ms_module.proofs.Changes.{next_atom, declares_none, declares_more, declares_skip, not_yet}
+use Rattle.ms_module.proofs.Changes.{next_atom, declares_more, declares_skip, not_yet}
 use Rattle.ms_module.proofs.state.State.declare.Goals as goal
 use Rattle.ms_module.proofs.state.State.declare.Goals.{then-first-a+in_ok-declare_one, else-first-a}
 

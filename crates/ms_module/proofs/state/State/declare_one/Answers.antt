@@ -1,5 +1,4 @@
 use Rattle.std.proofs.Common.{ℕ, set, ◌≡◌, ◌≤◌, ◌<◌, ◌^◌, length, ap, sym, subst, arith}
-use Rattle.std.specs.List.{Any}
 use Rattle.ms_join.specs.Modules.{Join, IsInput}
 use Rattle.ms_module.specs.Inputs.{ArePlaced}
 use Rattle.ms_module.proofs.InputLaws.{inputs_few, placed_push}

@@ -1,6 +1,6 @@
 use Rattle.std.proofs.Common.{subst, sym, List, ℕ}
 use Rattle.ms_module.specs.Inputs.{Withdraws}
-use Rattle.ms_module.proofs.Changes.{next_atom, withdraws_none, withdraws_more}
+use Rattle.ms_module.proofs.Changes.{next_atom, withdraws_more}
 use Rattle.ms_module.proofs.state.State.withdraw.Goals as goal
 
 pub loop-a-preserved : goal.loop-a-preserved
