@@ -109,11 +109,11 @@ withdraws_none old = record {
 pub withdraws_more : (old mid new : Join) (a : ℕ) (atoms : List ℕ) (effect : Effect) → Withdraws old atoms mid → Releases mid a new effect
     → Withdraws old (atoms ++ a ∷ []) new
 withdraws_more old mid new a atoms Done is releases = record {
-  atoms_stay = releases.atoms ∙ is.atoms_stay;
-  rules_stay = releases.rules ∙ is.rules_stay;
+  atoms_stay = releases.1.atoms ∙ is.atoms_stay;
+  rules_stay = releases.1.rules ∙ is.rules_stay;
   inputs = λ i. (
     λ has.
-        let here = (releases.inputs i).0 has in
+        let here = (releases.1.inputs i).0 has in
         let before = (is.inputs i).0 here.0 in (
           before.0,
           λ among. elim (Contains-push_cases atoms a i.atom among) [
@@ -121,7 +121,7 @@ withdraws_more old mid new a atoms Done is releases = record {
             | inr last ↦ here.1 (sym last)
           ],
         ),
-    λ both. (releases.inputs i).1 (
+    λ both. (releases.1.inputs i).1 (
       (is.inputs i).1 (both.0, λ among. both.1 (Contains-append_left atoms (a ∷ []) i.atom among)),
       λ same. both.1 (subst (Contains (atoms ++ a ∷ [])) (sym same) (Contains-push atoms a)),
     ),

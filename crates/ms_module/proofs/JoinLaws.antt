@@ -72,8 +72,8 @@ kept_still old new bodies uses atoms rules inputs are kept = record {
 pub kept_assigned : (old new : Join) (bodies : List Body) (uses : List Use) (a : ℕ) (value : Option Bool) (effect : Effect) → Assigns old a value new effect → AreInputs new
     → IsKept old bodies uses → IsKept new bodies uses
 kept_assigned old new bodies uses a value Done is are kept =
-    kept_still old new bodies uses is.atoms is.rules
-    (λ i has. elim ((is.inputs i).0 has) [
+    kept_still old new bodies uses is.1.atoms is.1.rules
+    (λ i has. elim ((is.1.inputs i).0 has) [
       | inl before ↦ input_from old i before.0
       | inr set_now ↦ subst (IsInput old) (sym (ap (λ (x : Input). x.atom) set_now.1)) set_now.0
     ]) are kept
@@ -83,7 +83,7 @@ kept_assigned old new bodies uses a value NoEffect is are kept = subst (λ j. Is
 pub kept_released : (old new : Join) (bodies : List Body) (uses : List Use) (a : ℕ) (effect : Effect) → Releases old a new effect → AreInputs new
     → IsKept old bodies uses → IsKept new bodies uses
 kept_released old new bodies uses a Done is are kept =
-    kept_still old new bodies uses is.atoms is.rules (λ i has. input_from old i ((is.inputs i).0 has).0) are kept
+    kept_still old new bodies uses is.1.atoms is.1.rules (λ i has. input_from old i ((is.1.inputs i).0 has).0) are kept
 kept_released old new bodies uses a NoEffect is are kept = subst (λ j. IsKept j bodies uses) (sym is.1) kept
 
 -- the steps of a join without its rules

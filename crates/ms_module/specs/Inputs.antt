@@ -22,12 +22,12 @@ pub record AreInputs (j : Join) : Type 0 where
 
 -- The input has this value from now on. Where the atom is no input nothing changes.
 abbrev pub Assigns : Join → ℕ → Option Bool → Join → Effect → Type 0
-Assigns old a value new Done = IsAssigned old a value new
+Assigns old a value new Done = IsInput old a × IsAssigned old a value new
 Assigns old a value new NoEffect = (¬ IsInput old a) × (new ≡ old)
 
 -- The input is an output from now on. Where the atom is no input nothing changes.
 abbrev pub Releases : Join → ℕ → Join → Effect → Type 0
-Releases old a new Done = IsReleased old a new
+Releases old a new Done = IsInput old a × IsReleased old a new
 Releases old a new NoEffect = (¬ IsInput old a) × (new ≡ old)
 
 -- The atoms from `first` on are inputs from now on, with the value false.

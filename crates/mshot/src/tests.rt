@@ -246,6 +246,62 @@ fn more_scripts_have_their_replies(rt: HostRuntime) -> Result<(), Fail> {
 }
 
 #[test]
+fn modules_are_tested(rt: HostRuntime) -> Result<(), Fail> {
+    let done = Status::Done;
+    let refused = Status::SomeRefused;
+    let rows: [(&str, &[u8], Status, &str); 7] = [
+        (
+            "the least of the outputs that are heads again, which isn't the first met",
+            b"@add\nb. c. a(1). #program late. a(1). c. b.\n@end\n@ground base\n@ground late\n",
+            refused,
+            "added 7\ngrounded atoms=3 rules=3\nrefused redefined b\n",
+        ),
+        (
+            "an output that is a head again comes before a loop",
+            b"@add\n#external e. a :- e. b. #program late. e :- a. b.\n@end\n@ground base\n@ground late\n",
+            refused,
+            "added 6\ngrounded atoms=3 rules=2\nrefused redefined b\n",
+        ),
+        (
+            "the least head in a loop, and the least output there",
+            b"@add\n#external e(1). #external d. a(2) :- e(1). b(1) :- d. c :- d. #program late. e(1) :- a(2). d :- b(1), c.\n@end\n@ground base\n@ground late\n",
+            refused,
+            "added 8\ngrounded atoms=5 rules=3\nrefused loop d c\n",
+        ),
+        (
+            "a loop through a new atom",
+            b"@add\n#external e. a :- e. #program late. n :- a. e :- n.\n@end\n@ground base\n@ground late\n",
+            refused,
+            "added 5\ngrounded atoms=2 rules=1\nrefused loop e a\n",
+        ),
+        (
+            "a loop within one module",
+            b"@add\n#external e. #program late. e :- n. n :- e.\n@end\n@ground base\n@ground late\n@solve all\n",
+            done,
+            "added 4\ngrounded atoms=1 rules=0\ngrounded atoms=1 rules=2\nanswer:\ncomplete 1\n",
+        ),
+        (
+            "a negated atom makes no loop",
+            b"@add\n#external e. a :- not e. #program late. e :- a.\n@end\n@ground base\n@ground late\n@solve all\n",
+            done,
+            "added 4\ngrounded atoms=2 rules=1\ngrounded atoms=0 rules=1\ncomplete 0\n",
+        ),
+        (
+            "after a refusal all is as before",
+            b"@add\n#external e. a :- e. #program late. e :- a. f.\n@end\n@ground base\n@assign e true\n@ground late\n@solve all with not f\n",
+            refused,
+            "added 5\ngrounded atoms=2 rules=1\nassigned\nrefused loop e a\nanswer: a e\ncomplete 1\n",
+        ),
+    ];
+    for (name, script, status, replies) in rows {
+        let outcome = call(rt.alloc(), &["run"], script, &[], &[], ROOM)?;
+        assert_eq!(rt; outcome.status, status, "{name}");
+        assert_eq!(rt; outcome.written.as_slice(), replies.as_bytes(), "{name}");
+    }
+    Ok(())
+}
+
+#[test]
 fn texts_are_read(rt: HostRuntime) -> Result<(), Fail> {
     let done = Status::Done;
     let refused = Status::SomeRefused;
