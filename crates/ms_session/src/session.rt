@@ -134,9 +134,6 @@ impl Session {
         if self.sealed {
             return Err(OutOfMemory);
         }
-        if self.join.truth(a).is_none() {
-            return Ok(Effect::NoEffect);
-        }
         Ok(self.join.assign(a, truth))
     }
 
@@ -150,9 +147,6 @@ impl Session {
     {
         if self.sealed {
             return Err(OutOfMemory);
-        }
-        if self.join.truth(a).is_none() {
-            return Ok(Effect::NoEffect);
         }
         Ok(self.join.release(a))
     }
