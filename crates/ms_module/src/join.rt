@@ -86,7 +86,7 @@ impl Join {
         self.state.assign(a, truth)
     }
 
-    /// Makes an input an output, which is false until a module has a rule for it. It takes no memory.
+    /// Makes an input an output without a rule, so that it is false for good. It takes no memory.
     pub fn release(&mut self, a: AtomId) -> Effect
         ensures { Releases self.old a self.new result }
     {
