@@ -80,6 +80,3 @@ pub fn answer_sets(
     };
     Ok(Found { ending, sets })
 }
-
-#[cfg(test)]
-mod tests;

@@ -10,6 +10,3 @@ pub use cone::Cone;
 pub use ms_base::atom_id::AtomId;
 pub use ms_base::memory::OutOfMemory;
 pub use uses::{Dependencies, Use};
-
-#[cfg(test)]
-mod tests;

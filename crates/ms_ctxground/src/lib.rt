@@ -9,8 +9,6 @@ mod numbers;
 mod plain_rules;
 mod rule;
 mod size;
-#[cfg(test)]
-mod tests;
 
 pub use calls::ground;
 pub use fault::GroundFault;

@@ -5,8 +5,6 @@ mod fault;
 pub mod instance;
 mod listing;
 mod making;
-#[cfg(test)]
-mod tests;
 
 pub use fault::InstanceFault;
 pub use instance::{Instance, Instances};

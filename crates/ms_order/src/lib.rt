@@ -2,8 +2,6 @@
 #![tactic(auto)]
 
 mod order;
-#[cfg(test)]
-mod tests;
 
 pub use ms_term::{TermId, Terms};
 pub use order::{compare, compare_lists, in_term_order};

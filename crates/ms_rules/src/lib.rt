@@ -19,6 +19,3 @@ pub use scratch::Scratch;
 
 /// A set of atoms: their numbers in rising order.
 pub type AtomSet = AtomIds;
-
-#[cfg(test)]
-mod tests;

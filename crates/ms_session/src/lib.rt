@@ -7,8 +7,6 @@ mod grounding;
 mod reply_text;
 mod session;
 mod solving;
-#[cfg(test)]
-mod tests;
 mod text;
 mod value_term;
 

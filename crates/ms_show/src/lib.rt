@@ -7,6 +7,3 @@ mod shown;
 pub use lines::print;
 pub use ms_machine::reply::Shown;
 pub use shown::listing;
-
-#[cfg(test)]
-mod tests;

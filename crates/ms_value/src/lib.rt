@@ -5,8 +5,6 @@ mod comparing;
 mod evaluating;
 mod integers;
 mod place;
-#[cfg(test)]
-mod tests;
 mod walk;
 
 pub use comparing::{holds, integers_hold};
