@@ -1,4 +1,5 @@
-ghost use Rattle.ms_ast.specs.Law.{AreInGrammar};
+ghost use Rattle.std.specs.Prelude.{All};
+ghost use Rattle.ms_ast.specs.Law.{IsInGrammar};
 
 use ms_ast::{Form, Statement, print};
 use ms_lex::lex;
@@ -8,7 +9,7 @@ use std::test::Fail;
 
 /// Prints statements one after another.
 fn print_each(alloc: Global, statements: &[Statement], into: &mut Vec<u8>) -> Result<(), Fail>
-    requires { AreInGrammar statements.now }
+    requires { All (λ statement. IsInGrammar statement.form) statements.now }
 {
     for statement in statements {
         print(alloc, statement, into)?;
