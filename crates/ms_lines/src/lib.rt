@@ -194,6 +194,3 @@ fn read_inside(
     added?;
     Ok(Fed::NotYet)
 }
-
-#[cfg(test)]
-mod tests;

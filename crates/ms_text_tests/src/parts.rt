@@ -1,8 +1,8 @@
 mod printed;
 
-use crate::{CoreRules, Parts, PartsFault, Statements, Value};
 use ms_lex::lex;
 use ms_parse::{parse, read_value};
+use ms_parts::{Parts, PartsFault, Statements, Value};
 use printed::{print_rule, print_rules};
 use std::alloc::Global;
 use std::test::Fail;

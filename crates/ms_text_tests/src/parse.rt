@@ -1,6 +1,7 @@
-use super::*;
 use ms_grammar::statement::Head;
 use ms_lex::lex;
+use ms_parse::{Form, ParseFault, Statement, parse, read_value};
+use std::alloc::Global;
 use std::process::Abort;
 use std::test::Fail;
 

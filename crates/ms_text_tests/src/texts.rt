@@ -1,6 +1,6 @@
-use crate::{TextFault, Texts, Value};
 use ms_base::seq::Seq;
 use ms_grammar::statement::{Form, Statement};
+use ms_texts::{TextFault, Texts, Value};
 use std::alloc::Global;
 use std::test::Fail;
 

@@ -1,6 +1,6 @@
-use crate::read_term;
 use ms_grammar::part::Part;
 use ms_lex::lex;
+use ms_read_term::read_term;
 use std::alloc::Global;
 use std::test::Fail;
 

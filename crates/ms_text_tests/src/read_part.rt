@@ -1,6 +1,6 @@
-use crate::{read_atom, read_body_part, read_head};
 use ms_grammar::part::Counted;
 use ms_lex::lex;
+use ms_read_part::{read_atom, read_body_part, read_head};
 use std::alloc::Global;
 use std::fmt::Debug;
 use std::test::Fail;

@@ -1,6 +1,7 @@
-use super::*;
 use ms_base::seq::Bytes;
 use ms_grammar::value::Value;
+use ms_lines::{Command, Fed, Lines, Truth, read_pieces};
+use std::alloc::Global;
 use std::process::Abort;
 use std::test::Fail;
 

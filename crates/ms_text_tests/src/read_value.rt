@@ -1,7 +1,7 @@
-use crate::read_front;
 use ms_grammar::part::ValuePart;
 use ms_grammar::value::Value;
 use ms_lex::lex;
+use ms_read_value::read_front;
 use std::alloc::Global;
 use std::test::Fail;
 

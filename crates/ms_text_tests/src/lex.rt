@@ -1,4 +1,4 @@
-use crate::{LexFault, TokenKind, lex};
+use ms_lex::{LexFault, TokenKind, lex};
 use std::test::Fail;
 
 /// A text, and the kinds, places and lines of its tokens.

@@ -1,18 +1,28 @@
-use crate::form::print_statement;
-use crate::{Form, Statement, print};
+ghost use Rattle.std.specs.Prelude.{All};
+ghost use Rattle.ms_ast.specs.Law.{IsInGrammar};
+
+use ms_ast::{Form, Statement, print};
 use ms_lex::lex;
 use ms_parse::parse;
 use std::alloc::Global;
 use std::test::Fail;
 
-/// The statements of a text as they are printed, one after another.
+/// Prints statements one after another.
+fn print_each(alloc: Global, statements: &[Statement], into: &mut Vec<u8>) -> Result<(), Fail>
+    requires { All (λ statement. IsInGrammar statement.form) statements.now }
+{
+    for statement in statements {
+        print(alloc, statement, into)?;
+    }
+    Ok(())
+}
+
+/// The statements of a text as they are printed.
 fn reprinted(alloc: Global, text: &[u8]) -> Result<Vec<u8>, Fail> {
     let tokens = lex(alloc, text)?;
     let statements = parse(alloc, text, &tokens)?;
     let mut printed = Vec::new(alloc);
-    for statement in statements.as_slice() {
-        print_statement(&statement.form, &mut printed)?;
-    }
+    print_each(alloc, statements.as_slice(), &mut printed)?;
     Ok(printed)
 }
 
