@@ -1,4 +1,4 @@
-use Rattle.std.proofs.Common.{List, [], ◌∷◌}
+use Rattle.std.proofs.Common.{List, [], ◌∷◌, sym, subst}
 use Rattle.std.proofs.lemmas.List.Elements.{All-nil, All-cons}
 use Rattle.std.specs.Prelude.{All}
 use Rattle.ms_grammar.specs.declared.statement.Statement.{Statement}
@@ -11,4 +11,5 @@ each_in_grammar [] are = All-nil (λ s. IsInGrammar s.form)
 each_in_grammar (s ∷ ss) are = All-cons (λ s. IsInGrammar s.form) s ss are.0 (each_in_grammar ss are.1)
 
 pub print_each-requires : goal.print_each-requires
-print_each-requires c = each_in_grammar _ (statements_in_grammar c.args.text.now _ _ c.lex.ensures c.parse.ensures.are)
+print_each-requires c =
+    subst (λ ss. All (λ s. IsInGrammar s.form) ss) (sym c.as_slice.ensures) (each_in_grammar _ (statements_in_grammar c.args.text.now _ _ c.in_ok-tokens.ensures.exact c.in_ok-statements.ensures.are))
