@@ -1,4 +1,3 @@
-pub mod TermOrder
 pub mod Front
 pub mod Numbered
 pub mod Rules
@@ -7,7 +6,6 @@ pub mod Members
 pub mod NamedTerms
 pub mod Added
 pub mod RuleSets
-pub mod TermSort
 pub mod Heads
 pub mod GroundModules
 pub mod Additions

@@ -1,30 +1,21 @@
 -- What grounding of calls of parts answers over a base, which is a list of names of terms in a table.
 -- Source: grounding in context after Gebser, Kaminski, Kaufmann and Schaub, "Multi-shot ASP solving with clingo" (2019).
 use Rattle.std.specs.Prelude.{ℕ, ◌≡◌, ◌≢◌, ◌<◌, ◌≤◌, ◌++◌, List, [], Result, Ok, Err, All, Any, length, map}
-use Rattle.std.specs.List.{flat_map}
 use Rattle.ms_tree.specs.Tree.{Tree}
 use Rattle.ms_tree.specs.Size.{tree_size}
 use Rattle.ms_term.specs.Terms.{term_at}
 use Rattle.ms_core.specs.declared.rule.CoreRule.{CoreRule}
-use Rattle.ms_core.specs.Texts.{Texts, core_of_call}
-use Rattle.ms_call.specs.declared.command.Call.{Call}
 use Rattle.ms_join.specs.declared.ground_module.GroundModule.{GroundModule}
 use Rattle.ms_join.specs.Modules.{IsWellFormed}
 use Rattle.ms_copies.specs.Simplifying.{IsModule}
 use Rattle.ms_copies.specs.Limits.{most_symbols, IsTooLarge}
+use Rattle.ms_machine.specs.Grounding.{ArePlain}
 use Rattle.ms_value.specs.Naming.{Keeps}
 use Rattle.ms_ctxground.specs.declared.fault.GroundFault.{GroundFault}
 use Rattle.ms_ctxground.specs.declared.fault.GroundFault.TheVariants.{Later, TooLarge, OutOfMemory}
 
--- the core rules of calls, one call after the other
-abbrev pub core_of_calls : Texts → List Call → List CoreRule
-core_of_calls texts calls = flat_map (λ call. core_of_call texts call.name call.args) calls
-
 abbrev pub HasAggregates : List CoreRule → Type 0
 HasAggregates rules = Any (λ rule. rule.aggs ≢ []) rules
-
-abbrev pub ArePlain : List CoreRule → Type 0
-ArePlain rules = All (λ rule. rule.aggs ≡ []) rules
 
 -- The atoms of a base are named by the table, and each has at most as many symbols as one may have.
 pub record IsBaseIn (table : List Tree) (base : List ℕ) : Type 0 where

@@ -7,12 +7,6 @@ use Rattle.ms_term.specs.Terms.{term_at}
 use Rattle.ms_core.specs.declared.rule.RuleKind.{RuleKind}
 use Rattle.ms_instances.specs.declared.instance.Instance.{Instance}
 
--- The names in the order of their terms, each of them once.
-pub record IsInTermOrder (table : List Tree) (names ordered : List ℕ) : Type 0 where
-  pub rising : IsStrictlySortedBy compare_trees (map (term_at table) ordered)
-  pub members : (n : ℕ) → Contains ordered n ↔ Contains names n
-  pub few : length ordered ≤ length names
-
 -- the head of an instance of such a kind
 abbrev pub head_of : (RuleKind → Bool) → Instance → Option ℕ
 head_of is_kind i = if is_kind i.kind then i.head else None

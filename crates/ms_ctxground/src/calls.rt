@@ -1,7 +1,8 @@
 // The ground module of calls of parts.
 ghost use Rattle.std.specs.Prelude.{◌≡◌, ◌≤◌, IfOk, length};
 ghost use Rattle.ms_term.specs.Terms.{trees};
-ghost use Rattle.ms_ctxground.specs.Grounds.{core_of_calls, Grounds, IsBaseIn};
+ghost use Rattle.ms_machine.specs.Grounding.{core_of_calls};
+ghost use Rattle.ms_ctxground.specs.Grounds.{Grounds, IsBaseIn};
 
 use crate::fault::GroundFault;
 use crate::plain_rules::{ground_rules, has_aggregates};

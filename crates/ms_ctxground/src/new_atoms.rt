@@ -1,19 +1,17 @@
 // The names of atoms that a base lacks, in term order.
 ghost use Rattle.std.specs.Prelude.{◌≡◌, ◌<◌, All, IfOk, OnOk, length};
 ghost use Rattle.std.specs.List.{filter_map};
-ghost use Rattle.ms_tree.specs.Order.{compare_trees};
-ghost use Rattle.ms_term.specs.Terms.{trees, term_at, number_in, AllDifferent};
+ghost use Rattle.ms_term.specs.Terms.{trees, AllDifferent};
 ghost use Rattle.ms_copies.specs.Grounding.{gives_head, gives_external};
-ghost use Rattle.ms_ctxground.specs.NewAtoms.{head_of, AreAdded, IsInTermOrder, IsNewOf};
+ghost use Rattle.ms_ctxground.specs.NewAtoms.{head_of, AreAdded, IsNewOf};
 
 use ms_atombase::AtomBase;
-use ms_base::seq::Seq;
 use ms_core::rule::RuleKind;
 use ms_instances::Instance;
 use ms_join::ground_module::TermIds;
+use ms_order::in_term_order;
 use ms_term::{OutOfMemory, TermId, Terms};
 use std::alloc::Global;
-use std::cmp::Ordering;
 
 /// The heads of normal rules and choices, in the order of the instances.
 pub(crate) fn outputs(alloc: Global, instances: &[Instance]) -> Result<Vec<TermId>, OutOfMemory>
@@ -88,40 +86,4 @@ fn add_unknown(base: &AtomBase, names: &[TermId], into: &mut Vec<TermId>) -> Res
         }
     }
     Ok(())
-}
-
-fn in_term_order(terms: &Terms, mut names: Vec<TermId>) -> TermIds
-    requires different { AllDifferent (trees terms.now) }
-    requires below { All (λ n. n < length (trees terms.now)) names.items }
-    ensures { IsInTermOrder (trees terms.now) names.items result }
-{
-    names.sort_unstable_by(|a, b| compare(terms, *a, *b));
-    names.dedup();
-    Seq::from_vec(names)
-}
-
-/// The order of two terms, where a number that names nothing stands for 0.
-fn compare(terms: &Terms, a: TermId, b: TermId) -> Ordering
-    ensures { result ≡ compare_trees (term_at (trees terms.now) a) (term_at (trees terms.now) b) }
-{
-    let len = terms.len();
-    if a.0 < len && b.0 < len {
-        return terms.compare(a, b);
-    }
-    match (integer(terms, a), integer(terms, b)) {
-        (Some(m), Some(n)) => m.cmp(&n),
-        (Some(_), None) => Ordering::Less,
-        (None, _) => Ordering::Greater,
-    }
-}
-
-/// The integer, or `None` exactly where the term is none. A number that names nothing stands for 0.
-fn integer(terms: &Terms, t: TermId) -> Option<i64>
-    ensures { result ≡ number_in (term_at (trees terms.now) t) }
-{
-    if t.0 < terms.len() {
-        terms.number_of(t)
-    } else {
-        Some(0)
-    }
 }

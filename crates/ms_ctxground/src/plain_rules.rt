@@ -2,7 +2,8 @@
 ghost use Rattle.std.specs.Prelude.{◌≡◌, ◌≤◌, All, IsTrue, false, length};
 ghost use Rattle.ms_term.specs.Terms.{trees};
 ghost use Rattle.ms_instances.specs.Naming.{IsHeadedRule};
-ghost use Rattle.ms_ctxground.specs.Grounds.{ArePlain, Grounds, HasAggregates, IsBaseIn};
+ghost use Rattle.ms_machine.specs.Grounding.{ArePlain};
+ghost use Rattle.ms_ctxground.specs.Grounds.{Grounds, HasAggregates, IsBaseIn};
 
 use crate::fault::GroundFault;
 use crate::module::module_of;

@@ -11,12 +11,12 @@ use Rattle.ms_call.specs.declared.command.Call.{Call}
 use Rattle.ms_call.specs.declared.command.Command.TheVariants.{Ground}
 use Rattle.ms_join.specs.declared.ground_module.GroundModule.{GroundModule}
 use Rattle.ms_join.specs.Modules.{Join, IsWellFormed}
-use Rattle.ms_ctxground.specs.Grounds.{IsGround, IsLater, IsRefused as TooLargeFor, HasAggregates, ArePlain, core_of_calls}
+use Rattle.ms_ctxground.specs.Grounds.{IsGround, IsLater, IsRefused as TooLargeFor, HasAggregates}
 use Rattle.ms_machine.specs.declared.reply.Reply.{Reply}
 use Rattle.ms_machine.specs.declared.reply.Reply.TheVariants.{Added, Grounded, Assigned, Released, NoEffect, Solved, Refused}
 use Rattle.ms_machine.specs.declared.reply.Refusal.{Refusal}
 use Rattle.ms_machine.specs.declared.reply.Refusal.TheVariants.{Command, Unfinished, Syntax, Const, Later, TooLarge, TooMany, Redefined, CrossLoop, Small}
-use Rattle.ms_machine.specs.Grounding.{Grounds}
+use Rattle.ms_machine.specs.Grounding.{core_of_calls, ArePlain, Grounds}
 use Rattle.ms_machine.specs.Machine.{Step}
 use Rattle.ms_machine.specs.Replies.{refused, said_by}
 use Rattle.ms_session.specs.Kept.{IsSound, state_by}

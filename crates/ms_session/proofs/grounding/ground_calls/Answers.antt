@@ -1,6 +1,6 @@
 use Rattle.std.proofs.lemmas.Result.{IfOk-weaker}
 use Rattle.ms_term.specs.Terms.{trees}
-use Rattle.ms_ctxground.specs.Grounds.{core_of_calls}
+use Rattle.ms_machine.specs.Grounding.{core_of_calls}
 use Rattle.ms_session.proofs.Stepping.{grown_base, later_step, large_step, module_steps, module_sound}
 use Rattle.ms_session.proofs.grounding.ground_calls.Goals as goal
 
