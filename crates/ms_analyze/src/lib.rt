@@ -10,8 +10,6 @@ ghost use Rattle.ms_nogood.specs.Store.{Stored, nogood_at};
 ghost use Rattle.ms_analyze.specs.Analysis.{AreReasoned, HasLevel, HasTemporaryReason, IsAsserting, IsGreatestBelow, IsOnlyDecision, IsTemporaryAt, nogoods_not_temporary};
 
 mod cut;
-#[cfg(test)]
-mod tests;
 
 use cut::Cut;
 use ms_lits::{Lits, Trail};

@@ -36,6 +36,3 @@ pub fn print(alloc: Global, statement: &Statement, into: &mut Vec<u8>) -> Result
     into.extend_from_slice(text.as_slice())?;
     Ok(())
 }
-
-#[cfg(test)]
-mod tests;

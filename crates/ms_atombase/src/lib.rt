@@ -2,8 +2,6 @@
 #![tactic(auto)]
 
 mod atom_base;
-#[cfg(test)]
-mod tests;
 
 pub use atom_base::{AtomBase, Mark};
 pub use ms_base::atom_id::AtomId;

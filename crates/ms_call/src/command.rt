@@ -1,5 +1,6 @@
 use ms_base::seq::{Bytes, Seq};
 use ms_grammar::value::{Value, Values};
+pub use ms_join::truth::Truth;
 
 /// A part of a program, with a value for each of its parameters.
 #[derive(Debug, Drop)]
@@ -9,14 +10,6 @@ pub struct Call {
 }
 
 pub type Calls = Seq<Call>;
-
-/// What an external atom is set to.
-#[derive(Clone, Copy, Debug, PartialEq, Eq)]
-pub enum Truth {
-    True,
-    False,
-    Free,
-}
 
 /// An atom that is taken for true or false in one solve.
 #[derive(Debug, Drop)]

@@ -16,6 +16,3 @@ pub type Edges = Seq<Edge>;
 
 /// The number of each node's component.
 pub type Comps = Seq<u32>;
-
-#[cfg(test)]
-mod tests;

@@ -1,11 +1,13 @@
--- The answer sets of ground rules. A set of atoms is a test of their numbers.
+-- The answer sets of ground rules with inputs. A set of atoms is a test of their numbers.
 -- Source: Gelfond and Lifschitz, "The stable model semantics for logic programming" (1988); a constraint
 -- as in Niemela, "Logic programs with stable model semantics as a constraint programming paradigm" (1999); a
--- choice as in Simons, Niemela and Soininen, "Extending and implementing the stable model semantics" (2002).
-use Rattle.std.specs.Prelude.{ℕ, ◌≡◌, ◌<◌, ◌==◌, Bool, false, not, ◌&&◌, IsTrue, List, Option, All, None, IfSome, IsSomeAnd, ⊤}
+-- choice as in Simons, Niemela and Soininen, "Extending and implementing the stable model semantics" (2002); inputs
+-- as the externals of Gebser, Kaminski, Kaufmann and Schaub, "Multi-shot ASP solving with clingo" (2019).
+use Rattle.std.specs.Prelude.{ℕ, ◌≡◌, ◌<◌, ◌==◌, Bool, true, false, not, ◌&&◌, IsTrue, List, Option, All, Some, None, IfSome, IsSomeAnd, ⊤}
 use Rattle.std.specs.List.{list_all, list_any}
 use Rattle.std.specs.List.Sorted.{IsStrictlyIncreasing}
 use Rattle.ms_join.specs.declared.ground_rule.GroundRule.{GroundRule}
+use Rattle.ms_join.specs.declared.ground_rule.Rules.{Rules}
 use Rattle.ms_join.specs.declared.ground_rule.GroundKind.{GroundKind}
 use Rattle.ms_join.specs.declared.ground_rule.GroundKind.TheVariants.{Normal, Choice, Constraint}
 
@@ -24,9 +26,17 @@ Keeps by of Normal rule = IsTrue (has_none by rule.neg) → IsTrue (has_all of r
 Keeps by of Choice rule = IfSome rule.head (λ h. IsTrue (by h) → IsTrue (has_none by rule.neg) → IsTrue (has_all of rule.pos) → IsTrue (of h))
 Keeps by of Constraint rule = ⊤
 
+-- The set `of` has what an input with this value asks for: a true one is a fact, and a free one is a fact where it
+-- is in the set `by`.
+abbrev pub KeepsInput : (ℕ → Bool) → (ℕ → Bool) → ℕ → Option Bool → Type 0
+KeepsInput by of a (Some true) = IsTrue (of a)
+KeepsInput by of a (Some false) = ⊤
+KeepsInput by of a None = IsTrue (by a) → IsTrue (of a)
+
 -- The set `of` is a model of the reduct by the set `by`.
-abbrev pub IsReductModel : List GroundRule → (ℕ → Bool) → (ℕ → Bool) → Type 0
-IsReductModel rules by of = All (λ rule. Keeps by of rule.kind rule) rules
+pub record IsReductModel (join : Rules) (by of : ℕ → Bool) : Type 0 where
+  pub rules : All (λ rule. Keeps by of rule.kind rule) join.rules
+  pub inputs : All (λ i. KeepsInput by of i.atom i.value) join.inputs
 
 -- A constraint allows a set in which its body doesn't hold.
 abbrev pub Allows : (ℕ → Bool) → GroundKind → GroundRule → Type 0
@@ -34,16 +44,11 @@ Allows set Normal rule = ⊤
 Allows set Choice rule = ⊤
 Allows set Constraint rule = (has_all set rule.pos && has_none set rule.neg) ≡ false
 
--- an atom, and whether it is assumed true
-abbrev pub Assumption : Type 0
-Assumption = ℕ × Bool
-
--- The set is the least model of the reduct by itself, each constraint allows it, and it meets each assumption.
-pub record IsAnswerSet (rules : List GroundRule) (assumptions : List Assumption) (set : ℕ → Bool) : Type 0 where
-  pub model : IsReductModel rules set set
-  pub least : (other : ℕ → Bool) → IsReductModel rules set other → (a : ℕ) → IsTrue (set a) → IsTrue (other a)
-  pub allowed : All (λ rule. Allows set rule.kind rule) rules
-  pub assumed : All (λ s. set s.0 ≡ s.1) assumptions
+-- The set is the least model of the reduct by itself, and each constraint allows it.
+pub record IsAnswerSet (join : Rules) (set : ℕ → Bool) : Type 0 where
+  pub model : IsReductModel join set set
+  pub least : (other : ℕ → Bool) → IsReductModel join set other → (a : ℕ) → IsTrue (set a) → IsTrue (other a)
+  pub allowed : All (λ rule. Allows set rule.kind rule) join.rules
 
 -- the set of the atoms in a list
 abbrev pub set_of : List ℕ → ℕ → Bool
@@ -65,3 +70,8 @@ pub record IsRuleOver (n : ℕ) (rule : GroundRule) : Type 0 where
   pub head : HasHead n rule.kind rule.head
   pub pos : All (λ a. a < n) rule.pos
   pub neg : All (λ a. a < n) rule.neg
+
+-- Rules over the atoms below n, and inputs among them.
+pub record AreRulesOver (n : ℕ) (join : Rules) : Type 0 where
+  pub rules : All (IsRuleOver n) join.rules
+  pub inputs : All (λ i. i.atom < n) join.inputs

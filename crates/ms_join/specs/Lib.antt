@@ -1,1 +1,4 @@
 pub mod AnswerSets
+pub mod Modules
+pub mod Dependencies
+pub mod Composability

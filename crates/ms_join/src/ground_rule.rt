@@ -28,8 +28,19 @@ pub struct GroundRule {
 /// Rules, each once.
 pub type GroundRules = Seq<GroundRule>;
 
-/// The rules of a join.
+/// An atom whose truth is given from outside. Where its value is `None` it is free: each answer set has it or not.
+#[derive(Clone, Copy, Debug, PartialEq, Eq)]
+pub struct Input {
+    pub atom: AtomId,
+    pub value: Option<bool>,
+}
+
+/// Inputs, each atom once.
+pub type Inputs = Seq<Input>;
+
+/// The rules of a join, and its inputs.
 #[derive(Debug, Drop)]
 pub struct Rules {
     pub rules: GroundRules,
+    pub inputs: Inputs,
 }

@@ -68,6 +68,3 @@ pub fn lex(alloc: Global, text: &[u8]) -> Result<Tokens, LexFault>
     }
     Ok(tokens)
 }
-
-#[cfg(test)]
-mod tests;

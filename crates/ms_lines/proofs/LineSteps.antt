@@ -5,6 +5,11 @@ use Rattle.std.proofs.lemmas.Bool.{true≢false, false≢true}
 use Rattle.std.proofs.lemmas.List.{take_more}
 use Rattle.std.proofs.lemmas.List.Sums.{prefix_len_stops}
 use Rattle.ms_text.specs.Tokens.{is_in_line}
+use Rattle.ms_grammar.specs.Words.{Word}
+use Rattle.ms_call.specs.declared.command.Assumption.{Assumption}
+use Rattle.ms_call.specs.declared.command.Command.{Command as a_command}
+use Rattle.ms_call.specs.declared.command.Command.TheVariants.{Add, Ground, Assign, Release, Solve}
+use Rattle.ms_call.specs.Commands.{IsSaid, IsCount}
 use Rattle.ms_call.specs.Lines.{ends_text}
 use Rattle.ms_call.specs.Items.{Item, command, bad_line, Open, IsLine, Says, text_says, with_item, HaveItems, in_first_line, lines_in}
 use Rattle.ms_lines.specs.declared.Lines.{Lines}
@@ -14,7 +19,7 @@ use Rattle.ms_lines.specs.Kinds.{IsKind}
 use Rattle.ms_lines.specs.Buffers.{IsLineLen, HasNoLine, IsEndOf, LacksLine}
 use Rattle.ms_lines.specs.declared.Fed.{Fed}
 use Rattle.ms_lines.specs.declared.Fed.TheVariants.{Command as is_fed, BadCommand, NotYet}
-use Rattle.ms_lines.specs.Feeding.{SaysThen, SaysAtEnd, HasLeft, item_of, IsShorter, LosesLine}
+use Rattle.ms_lines.specs.Feeding.{SaysThen, SaysAtEnd, HasLeft, item_of, IsShorter, LosesLine, AsksForSome, GivesSome}
 use Rattle.ms_lines.specs.Finding.{IsOnly}
 use Rattle.ms_lines.proofs.Scanning.{front_more}
 
@@ -288,3 +293,37 @@ after_part NotYet bytes here last k h = tt
 pub shorter_after : {E : Type 0} (r : Result Fed E) (bytes here last : List ℕ) → IsEndOf bytes here → IfOk r (λ fed. IsShorter fed here last) → IfOk r (λ fed. IsShorter fed bytes last)
 shorter_after (Ok fed) bytes here last k h = after_part fed bytes here last k h
 shorter_after (Err e) bytes here last k h = tt
+
+-- a solve asks for at least one answer
+count_some : (w : Word) (count : ℕ) → IsCount w count → 1 ≤ count
+count_some w count (inl h) = h.1
+count_some w count (inr h) = omega (arith, h.1)
+
+said_some : (word : List ℕ) (ws : List Word) (c : a_command) → IsSaid word ws c → AsksForSome c
+said_some word ws (Add text) is = absurd is
+said_some word ws (Ground calls) is = tt
+said_some word ws (Assign atom truth) is = tt
+said_some word ws (Release atom) is = tt
+said_some word ws (Solve count limit assume) is = count_some is.1.count_word count is.1.count_is
+
+-- a text isn't a solve
+solve_is_no_text : {count limit : ℕ} {assume : List Assumption} {text : List ℕ} → Some (command (Solve count limit assume)) ≡ Some (command (Add text)) → ⊥
+solve_is_no_text e = let f : ⊥ = cc in f
+
+something_is_said : {item : Item} → Some item ≡ None → ⊥
+something_is_said e = let f : ⊥ = cc in f
+
+text_some : (ended : Bool) (text line : List ℕ) (c : a_command) (left : Open) → (Some (command c), left) ≡ text_says ended text line → AsksForSome c
+text_some ended text line (Add added) left e = tt
+text_some ended text line (Ground calls) left e = tt
+text_some ended text line (Assign atom truth) left e = tt
+text_some ended text line (Release atom) left e = tt
+text_some true text line (Solve count limit assume) left e = absurd (solve_is_no_text (ap (λ s. s.0) e))
+text_some false text line (Solve count limit assume) left e = absurd (something_is_said (ap (λ s. s.0) e))
+
+pub gives_some : (opened : Open) (line : List ℕ) (fed : Fed) (left : Open) → Says opened line (item_of fed, left) → GivesSome fed
+gives_some None line (is_fed c) None is = said_some is.word _ c is.said
+gives_some None line (is_fed c) (Some text) is = absurd is
+gives_some (Some text) line (is_fed c) left is = text_some (ends_text line) text line c left is
+gives_some opened line BadCommand left is = tt
+gives_some opened line NotYet left is = tt

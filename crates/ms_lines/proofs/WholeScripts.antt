@@ -1,5 +1,5 @@
 -- All that a script says, piece by piece.
-use Rattle.std.proofs.Common.{◌≡◌, ◌≢◌, ◌↔◌, ℕ, ◌+◌, ◌<◌, Bool, true, false, List, [], ◌∷◌, ◌++◌, length, take, get_or, Option, Some, None, IsTrue, IsSome, refl, sym, ap, ◌∙◌, subst, arith, append-nil, append_assoc}
+use Rattle.std.proofs.Common.{◌≡◌, ◌↔◌, ℕ, ◌+◌, ◌<◌, Bool, true, List, [], ◌∷◌, ◌++◌, length, take, get_or, Option, Some, None, IsTrue, IsSome, refl, sym, ap, ◌∙◌, subst, arith, append-nil, append_assoc}
 use Rattle.std.specs.List.{flat_map}
 use Rattle.std.proofs.lemmas.List.{take_more}
 use Rattle.std.proofs.lemmas.List.Concat.{flat_map-append}
@@ -7,7 +7,6 @@ use Rattle.ms_call.specs.Items.{Item, Open, with_item, HaveItems, HasItems, line
 use Rattle.ms_lines.specs.declared.Lines.{Lines}
 use Rattle.ms_lines.specs.declared.Fed.{Fed}
 use Rattle.ms_lines.specs.declared.Fed.TheVariants.{Command as is_fed, BadCommand, NotYet}
-use Rattle.ms_lines.specs.Buffers.{LacksLine}
 use Rattle.ms_lines.specs.Feeding.{item_of, HasLeft, SaysThen, SaysAtEnd, IsShorter, LosesLine}
 use Rattle.ms_lines.specs.Whole.{items_of, SaysAll, HasTold, HasToldAtEnd}
 

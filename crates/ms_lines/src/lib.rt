@@ -5,7 +5,7 @@ ghost use Rattle.std.specs.Prelude.{◌≡◌, ◌↔◌, ◌<◌, ◌++◌, [],
 ghost use Rattle.ms_call.specs.Items.{Says};
 ghost use Rattle.ms_lines.specs.Finding.{IsOnly};
 ghost use Rattle.ms_lines.specs.Buffers.{IsLineLen, HasNoLine, IsEndOf, LacksLine};
-ghost use Rattle.ms_lines.specs.Feeding.{item_of, SaysThen, SaysAtEnd, IsShorter, LosesLine};
+ghost use Rattle.ms_lines.specs.Feeding.{item_of, SaysThen, SaysAtEnd, IsShorter, LosesLine, GivesSome};
 
 mod arguments;
 mod buffer;
@@ -72,6 +72,7 @@ impl Lines {
     pub fn next_command(&mut self, alloc: Global) -> Result<Fed, OutOfMemory>
         ensures said { IfOk result (λ fed. SaysThen self.old (item_of fed) self.new) }
         ensures whole { IfOk result (λ fed. item_of fed ≡ None → HasNoLine self.new.rest) }
+        ensures some { IfOk result GivesSome }
         ensures kept { IsEndOf self.old.rest self.new.rest }
         ensures shorter { IfOk result (λ fed. LosesLine fed self.old.rest self.new.rest) }
         ensures err { OnErr result (SaysThen self.old None self.new) }
@@ -89,6 +90,7 @@ impl Lines {
     pub fn end(&mut self, alloc: Global) -> Result<Fed, OutOfMemory>
         ensures said { IfOk result (λ fed. SaysAtEnd self.old (item_of fed) self.new) }
         ensures all { IfOk result (λ fed. item_of fed ≡ None → self.new.rest ≡ []) }
+        ensures some { IfOk result GivesSome }
         ensures shorter { IfOk result (λ fed. IsShorter fed self.old.rest self.new.rest) }
         ensures err { OnErr result (SaysAtEnd self.old None self.new) }
     {
@@ -103,6 +105,7 @@ impl Lines {
         requires { HasNoLine self.old.rest }
         ensures said { IfOk result (λ fed. SaysAtEnd self.old (item_of fed) self.new) }
         ensures all { IfOk result (λ fed. item_of fed ≡ None → self.new.rest ≡ []) }
+        ensures some { IfOk result GivesSome }
         ensures shorter { IfOk result (λ fed. IsShorter fed self.old.rest self.new.rest) }
         ensures err { OnErr result (SaysAtEnd self.old None self.new) }
     {
@@ -124,6 +127,7 @@ impl Lines {
     fn take_line(&mut self, alloc: Global, len: usize) -> Result<Fed, OutOfMemory>
         requires { IsLineLen self.old.rest len }
         ensures said { IfOk result (λ fed. SaysThen self.old (item_of fed) self.new) }
+        ensures some { IfOk result GivesSome }
         ensures shorter { OnOk result (LacksLine self.old.rest self.new.rest) }
         ensures kept { IsEndOf self.old.rest self.new.rest }
         ensures err { OnErr result (self.new ≡ self.old) }
@@ -190,6 +194,3 @@ fn read_inside(
     added?;
     Ok(Fed::NotYet)
 }
-
-#[cfg(test)]
-mod tests;

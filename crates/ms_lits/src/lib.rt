@@ -3,8 +3,6 @@
 
 mod lit;
 mod note;
-#[cfg(test)]
-mod tests;
 mod trail;
 
 pub use lit::{Answers, Lit, Lits, Numbers};

@@ -1,5 +1,5 @@
-pub mod Plain
-pub mod Grounding
 pub mod Listing
-pub mod Machine
 pub mod Replies
+pub mod Grounding
+pub mod Machine
+pub mod Scripts

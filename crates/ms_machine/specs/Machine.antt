@@ -1,77 +1,108 @@
--- The machine that keeps only the accepted texts and the ground module, and solves it anew each time.
-use Rattle.std.specs.Prelude.{ℕ, ◌≡◌, ◌<◌, ◌≤◌, Bool, true, false, List, [], ◌∷◌, length, Some, None, codes}
+-- The machine that keeps only the accepted texts and one join of ground modules, and solves it anew each time.
+use Rattle.std.specs.Prelude.{ℕ, ◌≡◌, ◌<◌, ◌≤◌, ◌++◌, Bool, false, List, [], length, slice_get, Some, None}
+use Rattle.ms_tree.specs.Tree.{Tree, number, text as string, function, tree_count}
+use Rattle.ms_tree.specs.Text.{tree_text}
 use Rattle.ms_grammar.specs.declared.statement.Statement.{Statement}
-use Rattle.ms_join.specs.declared.ground_rule.GroundRule.{GroundRule}
-use Rattle.ms_command.specs.declared.command.Command.{Command}
-use Rattle.ms_command.specs.declared.command.Command.TheVariants.{Add, Ground, Solve}
-use Rattle.ms_command.specs.declared.command.ScriptItem.{ScriptItem}
-use Rattle.ms_command.specs.declared.command.ScriptItem.TheVariants.{Command as is_command, BadCommand, Unfinished}
-use Rattle.ms_machine.specs.declared.reply.Reply.{Reply}
-use Rattle.ms_machine.specs.declared.reply.Reply.TheVariants.{Added, Grounded, Solved, Refused}
-use Rattle.ms_machine.specs.declared.reply.Refusal.TheVariants.{Command as bad_command, Unfinished as no_end, Syntax, Const, Again, Later, Small}
 use Rattle.ms_grammar.specs.Statements.{Reads, IsNoText}
-use Rattle.ms_core.specs.declared.rule.CoreRule.{CoreRule}
-use Rattle.ms_core.specs.Texts.{Texts, no_texts, with_text, const_twice, core_of_call, shows}
-use Rattle.ms_machine.specs.declared.plain.PlainRule.{PlainRule}
-use Rattle.ms_machine.specs.Plain.{plain_rules}
-use Rattle.ms_machine.specs.Grounding.{AtomName, IsModule}
-use Rattle.ms_machine.specs.Listing.{Solves, all_count}
+use Rattle.ms_core.specs.Texts.{Texts, no_texts, with_text, const_twice, shows}
+use Rattle.ms_call.specs.declared.command.Call.{Call}
+use Rattle.ms_call.specs.declared.command.Command.{Command}
+use Rattle.ms_call.specs.declared.command.Command.TheVariants.{Add, Ground, Assign, Release, Solve}
+use Rattle.ms_join.specs.declared.ground_module.GroundModule.{GroundModule}
+use Rattle.ms_join.specs.Modules.{Join, no_join, IsInput, IsJoined, IsAssigned, IsReleased, value_of}
+use Rattle.ms_join.specs.Composability.{name_of, IsComposable, IsTooMany, IsFirstRedefined, IsFirstLoop}
+use Rattle.ms_copies.specs.Limits.{IsTooLarge}
+use Rattle.ms_machine.specs.declared.reply.Refusal.TheVariants.{Syntax, Const, Later, TooLarge, TooMany, Redefined, CrossLoop, Small}
+use Rattle.ms_machine.specs.Listing.{Solves, tree_of_value}
+use Rattle.ms_machine.specs.Replies.{Reply, added, grounded, assigned, released, no_effect, solved, refused}
+use Rattle.ms_machine.specs.Grounding.{core_of_calls, ArePlain, Grounds}
 
--- What the machine keeps: the accepted texts, whether they were grounded, the base and the rules.
+-- What the machine keeps: the accepted texts, the terms of the atoms of the base by their numbers, and the join.
 pub record State : Type 0 where
   pub texts : Texts
-  pub is_grounded : Bool
-  pub names : List AtomName
-  pub rules : List GroundRule
+  pub names : List Tree
+  pub join : Join
 
 -- before the first command
 abbrev pub start : State
-start = record { texts = no_texts; is_grounded = false; names = []; rules = [] }
+start = record { texts = no_texts; names = []; join = no_join }
 
 -- how many atoms a base may have of which every set is tried
 abbrev pub most_tried : ℕ
 most_tried = 20
 
--- the core rules of the part `base`
-abbrev pub base_rules : Texts → List CoreRule
-base_rules texts = core_of_call texts (codes "base") []
+-- an atom is shown by its name and the number of its arguments
+abbrev pub shows_atom : Texts → Tree → Bool
+shows_atom texts (function f ts) = shows texts f (tree_count ts)
+shows_atom texts (number n) = false
+shows_atom texts (string s) = false
 
--- a name without arguments is shown
-abbrev pub shows_name : Texts → AtomName → Bool
-shows_name texts name = shows texts name 0
+-- The number of the atom of the base that has this term, where it is an input.
+pub record IsInputNamed (s : State) (t : Tree) (a : ℕ) : Type 0 where
+  pub named : slice_get s.names a ≡ Some t
+  pub input : IsInput s.join a
+
+-- the calls have this module, whose new atoms have these terms
+abbrev pub GroundsCalls : State → List Call → List Tree → GroundModule → Type 0
+GroundsCalls s calls names m = Grounds s.names (core_of_calls s.texts calls) names m
+
+-- The module was joined.
+pub record Joins (old : State) (calls : List Call) (atoms count : ℕ) (new : State) : Type 0 where
+  pub names : List Tree
+  pub ground_module : GroundModule
+  pub grounds : GroundsCalls old calls names ground_module
+  pub composable : IsComposable old.join ground_module
+  pub atoms_are : atoms ≡ length names
+  pub rules_are : count ≡ length ground_module.rules
+  pub texts : new.texts ≡ old.texts
+  pub longer : new.names ≡ old.names ++ names
+  pub joined : IsJoined old.join ground_module new.join
+
+-- The module can't be joined, for this reason.
+pub record IsRefused (old : State) (calls : List Call) (Why : List Tree → GroundModule → Type 0) : Type 0 where
+  pub names : List Tree
+  pub ground_module : GroundModule
+  pub grounds : GroundsCalls old calls names ground_module
+  pub why : Why (old.names ++ names) ground_module
+
+-- the least head that is an output already, by its text
+abbrev pub RedefinesAs : Join → List ℕ → List Tree → GroundModule → Type 0
+RedefinesAs j atom names m = (a : ℕ) × IsFirstRedefined names j m a × (atom ≡ tree_text (name_of names a))
+
+-- the least head in one component with an output, and the least such output, by their texts
+abbrev pub LoopsAs : Join → List ℕ → List ℕ → List Tree → GroundModule → Type 0
+LoopsAs j new_head old names m =
+    (a : ℕ) × (b : ℕ) × IsFirstLoop names j m a b × (new_head ≡ tree_text (name_of names a)) × (old ≡ tree_text (name_of names b))
 
 -- In the state `old` the machine may give this reply to the command and go on to `new`. A refusal leaves the
 -- state as it is.
 abbrev pub Step : State → Command → Reply → State → Type 0
-Step old (Add text) (Added count) new =
+Step old (Add text) (added count) new =
     (statements : List Statement) × Reads text statements × (const_twice old.texts statements ≡ None)
     × (count ≡ length statements) × (new ≡ record old { texts = with_text old.texts statements })
-Step old (Add text) (Refused (Syntax line)) new = IsNoText text line × (new ≡ old)
+Step old (Add text) (refused (Syntax line)) new = IsNoText text line × (new ≡ old)
 -- a constant is defined a second time
-Step old (Add text) (Refused (Const line)) new =
+Step old (Add text) (refused (Const line)) new =
     (statements : List Statement) × Reads text statements × (const_twice old.texts statements ≡ Some line) × (new ≡ old)
-Step old Ground (Grounded atoms count) new =
-    (old.is_grounded ≡ false)
-    × ((plain : List PlainRule) × (plain_rules (base_rules old.texts) ≡ Some plain) × ((names : List AtomName) × (rules : List GroundRule)
-    × IsModule plain names rules × (atoms ≡ length names) × (count ≡ length rules) × (new ≡ record old { is_grounded = true; names = names; rules = rules })))
--- a core rule isn't one of plain names
-Step old Ground (Refused Later) new = (old.is_grounded ≡ false) × (plain_rules (base_rules old.texts) ≡ None) × (new ≡ old)
-Step old Ground (Refused Again) new = (old.is_grounded ≡ true) × (new ≡ old)
-Step old Solve (Solved ending count listing) new =
-    (length old.names ≤ most_tried) × Solves (shows_name old.texts) old.names old.rules [] all_count ending count listing × (new ≡ old)
-Step old Solve (Refused Small) new = (most_tried < length old.names) × (new ≡ old)
+Step old (Ground calls) (grounded atoms count) new = Joins old calls atoms count new
+-- a core rule has an aggregate
+Step old (Ground calls) (refused Later) new = (¬ ArePlain (core_of_calls old.texts calls)) × (new ≡ old)
+Step old (Ground calls) (refused TooLarge) new =
+    ArePlain (core_of_calls old.texts calls) × IsTooLarge old.names (core_of_calls old.texts calls) × (new ≡ old)
+Step old (Ground calls) (refused TooMany) new = IsRefused old calls (λ names m. IsTooMany old.join m) × (new ≡ old)
+Step old (Ground calls) (refused (Redefined atom)) new = IsRefused old calls (RedefinesAs old.join atom) × (new ≡ old)
+Step old (Ground calls) (refused (CrossLoop new_head other)) new = IsRefused old calls (LoopsAs old.join new_head other) × (new ≡ old)
+Step old (Assign atom truth) assigned new =
+    ((a : ℕ) × IsInputNamed old (tree_of_value atom) a × IsAssigned old.join a (value_of truth) new.join)
+    × (new.texts ≡ old.texts) × (new.names ≡ old.names)
+Step old (Assign atom truth) no_effect new = ((a : ℕ) → ¬ IsInputNamed old (tree_of_value atom) a) × (new ≡ old)
+Step old (Release atom) released new =
+    ((a : ℕ) × IsInputNamed old (tree_of_value atom) a × IsReleased old.join a new.join)
+    × (new.texts ≡ old.texts) × (new.names ≡ old.names)
+Step old (Release atom) no_effect new = ((a : ℕ) → ¬ IsInputNamed old (tree_of_value atom) a) × (new ≡ old)
+Step old (Solve asked limit assume) (solved ending count most listing) new =
+    (length old.names ≤ most_tried) × Solves (shows_atom old.texts) old.names old.join assume asked ending count listing
+    × (most ≡ limit) × (new ≡ old)
+Step old (Solve asked limit assume) (refused Small) new = (most_tried < length old.names) × (new ≡ old)
 -- no other reply is given
 Step old command reply new = ⊥
-
--- The same for an item of a script: a bad line, and an `@add` that the end cuts off, are refused.
-abbrev pub Takes : State → ScriptItem → Reply → State → Type 0
-Takes old (is_command command) reply new = Step old command reply new
-Takes old BadCommand reply new = (reply ≡ Refused bad_command) × (new ≡ old)
-Takes old Unfinished reply new = (reply ≡ Refused no_end) × (new ≡ old)
-
--- From `old` the machine may give these replies to these items, one after another, and end in `new`.
-unfoldable pub Run : State → List ScriptItem → List Reply → State → Type 0
-Run old [] [] new = new ≡ old
-Run old (item ∷ items) (reply ∷ replies) new = (mid : State) × Takes old item reply mid × Run mid items replies new
-Run old [] (reply ∷ replies) new = ⊥
-Run old (item ∷ items) [] new = ⊥

@@ -1,48 +1,80 @@
--- The texts of the replies.
-use Rattle.std.specs.Prelude.{ℕ, Bool, true, false, List, [], ◌∷◌, ◌++◌, codes}
+-- The replies, and their texts.
+use Rattle.std.specs.Prelude.{ℕ, Bool, true, false, List, [], ◌∷◌, ◌++◌, map, codes}
 use Rattle.std.specs.List.{flat_map}
 use Rattle.std.specs.Fmt.{decimal}
-use Rattle.ms_machine.specs.declared.reply.Reply.{Reply}
-use Rattle.ms_machine.specs.declared.reply.Reply.TheVariants.{Added, Grounded, Solved, Refused}
-use Rattle.ms_machine.specs.declared.reply.Ending.{Ending}
-use Rattle.ms_machine.specs.declared.reply.Ending.TheVariants.{Complete, StillOpen}
+use Rattle.ms_tree.specs.Tree.{Tree}
+use Rattle.ms_tree.specs.Text.{tree_text}
+use Rattle.ms_term.specs.Terms.{term_at}
+use Rattle.ms_lits.specs.declared.note.Ending.{Ending}
+use Rattle.ms_lits.specs.declared.note.Ending.TheVariants.{Complete, StillOpen, Cut}
+use Rattle.ms_machine.specs.declared.reply.Reply.{Reply as kept_reply}
+use Rattle.ms_machine.specs.declared.reply.Reply.TheVariants.{Added, Grounded, Assigned, Released, NoEffect, Solved, Refused}
 use Rattle.ms_machine.specs.declared.reply.Refusal.{Refusal}
-use Rattle.ms_machine.specs.declared.reply.Refusal.TheVariants.{Command, Unfinished, Syntax, Const, Again, Later, Small}
-use Rattle.ms_machine.specs.Grounding.{AtomName}
+use Rattle.ms_machine.specs.declared.reply.Refusal.TheVariants.{Command, Unfinished, Syntax, Const, Later, TooLarge, TooMany, Redefined, CrossLoop, Small}
+
+-- A reply. A listing has the terms of the shown atoms of each answer set.
+pub data Reply : Type 0 where
+  added : ℕ → Reply
+  grounded : ℕ → ℕ → Reply
+  assigned : Reply
+  released : Reply
+  no_effect : Reply
+  solved : Ending → ℕ → ℕ → List (List Tree) → Reply
+  refused : Refusal → Reply
+
+-- the reply whose atoms are kept by their names, where these are the terms of the table
+abbrev pub said_by : List Tree → kept_reply → Reply
+said_by table (Added count) = added count
+said_by table (Grounded atoms rules) = grounded atoms rules
+said_by table Assigned = assigned
+said_by table Released = released
+said_by table NoEffect = no_effect
+said_by table (Solved ending count limit shown) = solved ending count limit (map (map (term_at table)) shown)
+said_by table (Refused refusal) = refused refusal
 
 -- a text with its line end
 abbrev pub line : List ℕ → List ℕ
 line text = text ++ 10 ∷ []
 
 -- the shown atoms of one answer set
-abbrev pub answer_line : List AtomName → List ℕ
-answer_line shown = line (codes "answer:" ++ flat_map (λ name. 32 ∷ name) shown)
+abbrev pub answer_line : List Tree → List ℕ
+answer_line shown = line (codes "answer:" ++ flat_map (λ t. 32 ∷ tree_text t) shown)
 
-abbrev pub ending_line : Ending → ℕ → List ℕ
-ending_line Complete count = line (codes "complete " ++ decimal count)
-ending_line StillOpen count = line (codes "open " ++ decimal count)
+abbrev pub ending_line : Ending → ℕ → ℕ → List ℕ
+ending_line Complete count limit = line (codes "complete " ++ decimal count)
+ending_line StillOpen count limit = line (codes "open " ++ decimal count)
+ending_line Cut count limit = line (codes "cut " ++ decimal count ++ codes " limit=" ++ decimal limit)
 
 abbrev pub refusal_line : Refusal → List ℕ
 refusal_line Command = line (codes "refused command")
 refusal_line Unfinished = line (codes "refused unfinished")
 refusal_line (Syntax at) = line (codes "refused syntax " ++ decimal at)
 refusal_line (Const at) = line (codes "refused const " ++ decimal at)
-refusal_line Again = line (codes "refused again")
 refusal_line Later = line (codes "refused later")
+refusal_line TooLarge = line (codes "refused too-large")
+refusal_line TooMany = line (codes "refused too-many")
+refusal_line (Redefined atom) = line (codes "refused redefined " ++ atom)
+refusal_line (CrossLoop new_head old) = line (codes "refused loop " ++ new_head ++ 32 ∷ old)
 refusal_line Small = line (codes "refused small")
 
 abbrev pub reply_text : Reply → List ℕ
-reply_text (Added count) = line (codes "added " ++ decimal count)
-reply_text (Grounded atoms rules) = line (codes "grounded atoms=" ++ decimal atoms ++ codes " rules=" ++ decimal rules)
-reply_text (Solved ending count listing) = flat_map answer_line listing ++ ending_line ending count
-reply_text (Refused refusal) = refusal_line refusal
+reply_text (added count) = line (codes "added " ++ decimal count)
+reply_text (grounded atoms rules) = line (codes "grounded atoms=" ++ decimal atoms ++ codes " rules=" ++ decimal rules)
+reply_text assigned = line (codes "assigned")
+reply_text released = line (codes "released")
+reply_text no_effect = line (codes "no effect")
+reply_text (solved ending count limit listing) = flat_map answer_line listing ++ ending_line ending count limit
+reply_text (refused refusal) = refusal_line refusal
 
 -- what is written for replies, one after another
 abbrev pub replies_text : List Reply → List ℕ
 replies_text replies = flat_map reply_text replies
 
 abbrev pub is_refused : Reply → Bool
-is_refused (Refused refusal) = true
-is_refused (Added count) = false
-is_refused (Grounded atoms rules) = false
-is_refused (Solved ending count listing) = false
+is_refused (added count) = false
+is_refused (grounded atoms rules) = false
+is_refused assigned = false
+is_refused released = false
+is_refused no_effect = false
+is_refused (solved ending count limit listing) = false
+is_refused (refused refusal) = true

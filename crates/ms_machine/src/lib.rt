@@ -1,5 +1,4 @@
 // Replies, and the definitions of specs/ that say which replies a script gets.
 #![tactic(auto)]
 
-pub mod plain;
 pub mod reply;

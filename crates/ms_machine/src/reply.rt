@@ -1,16 +1,9 @@
 use ms_base::seq::{Bytes, Seq};
+pub use ms_lits::Ending;
+use ms_term::TermId;
 
-/// How a solve ended.
-#[derive(Clone, Copy, Debug, PartialEq, Eq)]
-pub enum Ending {
-    /// Each answer set is listed, and there are fewer than were asked for.
-    Complete,
-    /// As many were listed as were asked for.
-    StillOpen,
-}
-
-/// Why a command was refused. A refused command changes nothing.
-#[derive(Clone, Copy, Debug, PartialEq, Eq)]
+/// Why a command was refused. A refused command changes nothing. Atoms are given by their texts.
+#[derive(Debug, Drop, PartialEq, Eq)]
 pub enum Refusal {
     /// The line is no command.
     Command,
@@ -20,16 +13,22 @@ pub enum Refusal {
     Syntax { line: u64 },
     /// A constant is defined a second time, for the first time in this line.
     Const { line: u64 },
-    /// The program was grounded before.
-    Again,
-    /// A statement isn't of a form that is grounded yet.
+    /// A core rule has an aggregate.
     Later,
+    /// The grounding has more than 1,000,000 copies of rules, or an atom of more than 2,000 symbols.
+    TooLarge,
+    /// The join would have more than 4,000,000 atoms and bodies.
+    TooMany,
+    /// A head of the module is an output already: the least such head.
+    Redefined { atom: Bytes },
+    /// A head of the module and an old output are in one component: the least such head, and the least output there.
+    CrossLoop { new_head: Bytes, old: Bytes },
     /// The base has too many atoms to try every set of them.
     Small,
 }
 
-/// The shown atoms of each listed answer set.
-pub type Shown = Seq<Seq<Bytes>>;
+/// The shown atoms of each listed answer set, by their names in the table of terms.
+pub type Shown = Seq<Seq<TermId>>;
 
 /// The reply to one command.
 #[derive(Debug, Drop)]
@@ -43,9 +42,17 @@ pub enum Reply {
         atoms: u64,
         rules: u64,
     },
+    /// The input has the value.
+    Assigned,
+    /// The input is false for good.
+    Released,
+    /// The atom is no input.
+    NoEffect,
+    /// So many answer sets were found and listed.
     Solved {
         ending: Ending,
         count: u64,
+        limit: u64,
         shown: Shown,
     },
     Refused(Refusal),

@@ -4,8 +4,6 @@
 mod kind;
 mod nogoods;
 mod scan;
-#[cfg(test)]
-mod tests;
 mod theory;
 
 pub use kind::Kind;

@@ -107,6 +107,3 @@ fn value_at(part: ValuePart, next: usize) -> ValueAt
         next,
     }
 }
-
-#[cfg(test)]
-mod tests;

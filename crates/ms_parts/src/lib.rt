@@ -22,6 +22,3 @@ pub use ms_grammar::statement::Statements;
 pub use ms_grammar::value::Value;
 pub use ms_texts::TextFault as PartsFault;
 pub use parts::Parts;
-
-#[cfg(test)]
-mod tests;

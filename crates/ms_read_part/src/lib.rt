@@ -69,6 +69,3 @@ pub fn read_head(
     let found = part::read_head(Input::new(alloc, text, tokens))?;
     Ok(ended(found, tokens.len()))
 }
-
-#[cfg(test)]
-mod tests;

@@ -39,6 +39,3 @@ pub fn read_term(
     drop(reader);
     found
 }
-
-#[cfg(test)]
-mod tests;

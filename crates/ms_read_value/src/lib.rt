@@ -34,6 +34,3 @@ pub fn read_front(
 {
     count_front(alloc, text, tokens)
 }
-
-#[cfg(test)]
-mod tests;

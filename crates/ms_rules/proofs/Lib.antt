@@ -1,3 +1,4 @@
 mod AnswerSets
+mod Inputs
 mod LeastModel
 mod Passing

@@ -1,9 +1,11 @@
 -- The least model of a reduct, as a fixed point.
-use Rattle.std.specs.Prelude.{ℕ, ◌≡◌, ◌<◌, Bool, false, not, IsTrue, List, Some, count_by, ⊤}
+use Rattle.std.specs.Prelude.{ℕ, ◌≡◌, ◌<◌, Bool, true, false, not, IsTrue, All, List, Option, Some, None, count_by, ⊤}
 use Rattle.ms_join.specs.declared.ground_rule.GroundRule.{GroundRule}
+use Rattle.ms_join.specs.declared.ground_rule.Input.{Input}
+use Rattle.ms_join.specs.declared.ground_rule.Rules.{Rules}
 use Rattle.ms_join.specs.declared.ground_rule.GroundKind.{GroundKind}
 use Rattle.ms_join.specs.declared.ground_rule.GroundKind.TheVariants.{Normal, Choice, Constraint}
-use Rattle.ms_join.specs.AnswerSets.{has_all, has_none, IsReductModel}
+use Rattle.ms_join.specs.AnswerSets.{has_all, has_none, IsReductModel, Keeps, KeepsInput}
 use Rattle.ms_rules.specs.declared.least_model.Progress.{Progress}
 use Rattle.ms_rules.specs.declared.least_model.Progress.TheVariants.{Still, Marked, Outside}
 use Rattle.ms_rules.specs.Flags.{flag_at}
@@ -22,13 +24,29 @@ pub record AsksFor (by of : ℕ → Bool) (rule : GroundRule) (a : ℕ) : Type 0
   pub head : rule.head ≡ Some a
   pub lacks : of a ≡ false
 
--- Each model of the reduct by the set `by` contains the set `of`.
-pub record IsWithinModels (rules : List GroundRule) (by of : ℕ → Bool) : Type 0 where
-  pub within : (other : ℕ → Bool) → IsReductModel rules by other → (a : ℕ) → IsTrue (of a) → IsTrue (other a)
+-- A true input is a fact of the reduct by the set `by`, and a free one that is in this set.
+abbrev pub IsFact : (ℕ → Bool) → ℕ → Option Bool → Type 0
+IsFact by a (Some true) = ⊤
+IsFact by a (Some false) = ⊥
+IsFact by a None = IsTrue (by a)
 
-pub record IsLeastModel (rules : List GroundRule) (by of : ℕ → Bool) : Type 0 where
-  pub model : IsReductModel rules by of
-  pub least : IsWithinModels rules by of
+-- The set `of` has the inputs that are facts, and is contained in each set that has them.
+pub record AreMarked (inputs : List Input) (by of : ℕ → Bool) : Type 0 where
+  pub kept : All (λ i. KeepsInput by of i.atom i.value) inputs
+  pub least : (other : ℕ → Bool) → All (λ i. KeepsInput by other i.atom i.value) inputs → (a : ℕ) → IsTrue (of a) → IsTrue (other a)
+
+-- Each model of the reduct by the set `by` contains the set `of`.
+pub record IsWithinModels (join : Rules) (by of : ℕ → Bool) : Type 0 where
+  pub within : (other : ℕ → Bool) → IsReductModel join by other → (a : ℕ) → IsTrue (of a) → IsTrue (other a)
+
+-- The set `of` has the inputs that are facts, and is within the models.
+pub record IsMarking (join : Rules) (by of : ℕ → Bool) : Type 0 where
+  pub inputs : All (λ i. KeepsInput by of i.atom i.value) join.inputs
+  pub within : IsWithinModels join by of
+
+pub record IsLeastModel (join : Rules) (by of : ℕ → Bool) : Type 0 where
+  pub model : IsReductModel join by of
+  pub least : IsWithinModels join by of
 
 -- how many flags are not set
 abbrev pub unmarked_count : List Bool → ℕ
@@ -36,7 +54,7 @@ unmarked_count flags = count_by not flags
 
 -- What a pass over the rules did: nothing was to be marked, or something was, or the set is no model of
 -- the reduct by itself.
-abbrev pub Progresses : Progress → List GroundRule → List Bool → List Bool → List Bool → Type 0
-Progresses Still rules in_set old new = IsReductModel rules (flag_at in_set) (flag_at new)
-Progresses Marked rules in_set old new = unmarked_count new < unmarked_count old
-Progresses Outside rules in_set old new = ¬ (IsReductModel rules (flag_at in_set) (flag_at in_set))
+abbrev pub Progresses : Progress → Rules → List Bool → List Bool → List Bool → Type 0
+Progresses Still join in_set old new = All (λ rule. Keeps (flag_at in_set) (flag_at new) rule.kind rule) join.rules
+Progresses Marked join in_set old new = unmarked_count new < unmarked_count old
+Progresses Outside join in_set old new = ¬ (IsReductModel join (flag_at in_set) (flag_at in_set))

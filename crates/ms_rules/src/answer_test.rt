@@ -1,6 +1,6 @@
 // The test whether a set of atoms is an answer set.
-ghost use Rattle.std.specs.Prelude.{◌≡◌, [], ◌↔◌, IsTrue, All, length};
-ghost use Rattle.ms_join.specs.AnswerSets.{Allows, IsAnswerSet, IsAtomSet, IsRuleOver, set_of};
+ghost use Rattle.std.specs.Prelude.{◌≡◌, ◌↔◌, IsTrue, All, length};
+ghost use Rattle.ms_join.specs.AnswerSets.{Allows, AreRulesOver, IsAnswerSet, IsAtomSet, set_of};
 ghost use Rattle.ms_rules.specs.Flags.{flag_at};
 
 use crate::AtomSet;
@@ -28,28 +28,28 @@ fn allows_each(rules: &[GroundRule], in_set: &[bool]) -> bool
 }
 
 /// Whether the set of the flags is an answer set, for which it marks atoms in `derived`.
-fn is_stable(rules: &[GroundRule], in_set: &[bool], derived: &mut [bool]) -> bool
-    requires over_base { All (IsRuleOver (length derived.old)) rules.now }
+fn is_stable(join: &Rules, in_set: &[bool], derived: &mut [bool]) -> bool
+    requires over_base { AreRulesOver (length derived.old) join.now }
     requires same_base { length in_set.now ≡ length derived.old }
-    ensures { IsTrue result ↔ IsAnswerSet rules.now [] (flag_at in_set.now) }
+    ensures { IsTrue result ↔ IsAnswerSet join.now (flag_at in_set.now) }
 {
-    if !allows_each(rules, in_set) || !mark_least_model(rules, in_set, derived) {
+    if !allows_each(join.rules.as_slice(), in_set) || !mark_least_model(join, in_set, derived) {
         return false;
     }
     *in_set == *derived
 }
 
-/// Whether the set is an answer set of the rules. It takes no memory.
+/// Whether the set is an answer set of the join. It takes no memory.
 ///
-/// The atoms and the rules are over the base that `scratch` has room for.
+/// The atoms of the set and of the join are of the base that `scratch` has room for.
 pub fn is_answer(join: &Rules, set: &AtomSet, scratch: &mut Scratch) -> bool
-    requires over_base { All (IsRuleOver scratch.old) join.now.rules }
+    requires over_base { AreRulesOver scratch.old join.now }
     requires set { IsAtomSet scratch.old set.now }
-    ensures exact { IsTrue result ↔ IsAnswerSet join.now.rules [] (set_of set.now) }
+    ensures exact { IsTrue result ↔ IsAnswerSet join.now (set_of set.now) }
     ensures room { scratch.new ≡ scratch.old }
 {
     let in_set = scratch.in_set.as_mut_slice();
     let derived = scratch.derived.as_mut_slice();
     write_flags(set.as_slice(), in_set);
-    is_stable(join.rules.as_slice(), in_set, derived)
+    is_stable(join, in_set, derived)
 }

@@ -1,12 +1,12 @@
-// The least model of the reduct of the rules by a set, as a fixed point.
-ghost use Rattle.std.specs.Prelude.{◌≡◌, All, length, MatchOption, MatchBool, IsTrue, ◌↔◌};
-ghost use Rattle.ms_join.specs.AnswerSets.{IsReductModel, IsRuleOver, Keeps};
-ghost use Rattle.ms_rules.specs.LeastModel.{AsksFor, IsLeastModel, IsWithinModels, MayAsk, Progresses};
+// The least model of the reduct of a join by a set, as a fixed point.
+ghost use Rattle.std.specs.Prelude.{◌≡◌, ◌<◌, All, length, MatchOption, MatchBool, IsTrue, ◌↔◌};
+ghost use Rattle.ms_join.specs.AnswerSets.{AreRulesOver, IsReductModel, Keeps};
+ghost use Rattle.ms_rules.specs.LeastModel.{AreMarked, AsksFor, IsFact, IsLeastModel, IsMarking, MayAsk, Progresses};
 ghost use Rattle.ms_rules.specs.Flags.{flag_at};
 
 use crate::flags::{has_all, has_none, is_marked};
 use ms_base::atom_id::AtomId;
-use ms_join::ground_rule::{GroundKind, GroundRule};
+use ms_join::ground_rule::{GroundKind, GroundRule, Input, Rules};
 
 /// What a pass over the rules came to.
 #[derive(Drop)]
@@ -48,14 +48,41 @@ fn missing_head(rule: &GroundRule, in_set: &[bool], derived: &[bool]) -> Option<
     }
 }
 
-/// Marks what each rule asks for in turn, up to the first that asks for an atom outside the set.
-fn pass(rules: &[GroundRule], in_set: &[bool], derived: &mut [bool]) -> Progress
-    requires over_base { All (IsRuleOver (length derived.old)) rules.now }
-    requires same_base { length in_set.now ≡ length derived.old }
-    requires within { IsWithinModels rules.now (flag_at in_set.now) (flag_at derived.old) }
-    ensures within { IsWithinModels rules.now (flag_at in_set.now) (flag_at derived.new) }
-    ensures progress { Progresses result rules.now in_set.now derived.old derived.new }
+/// The atom of the input where it is a fact of the reduct. A true input is one, and a free one where it is in the set.
+fn fact_of(input: &Input, in_set: &[bool]) -> Option<AtomId>
+    ensures { MatchOption result
+        (¬ (IsFact (flag_at in_set.now) input.now.atom input.now.value))
+        (λ a. (a ≡ input.now.atom) × IsFact (flag_at in_set.now) a input.now.value) }
 {
+    let is_fact = match input.value {
+        Some(value) => value,
+        None => is_marked(in_set, input.atom),
+    };
+    is_fact.then_some(input.atom)
+}
+
+/// Marks the inputs that are facts, and no other atoms.
+fn mark_inputs(inputs: &[Input], in_set: &[bool], derived: &mut [bool])
+    requires over_base { All (λ i. i.atom < length derived.old) inputs.now }
+    ensures { AreMarked inputs.now (flag_at in_set.now) (flag_at derived.new) }
+{
+    derived.fill(false);
+    for input in inputs {
+        if let Some(atom) = fact_of(input, in_set) {
+            derived[atom.0 as usize] = true;
+        }
+    }
+}
+
+/// Marks what each rule asks for in turn, up to the first that asks for an atom outside the set.
+fn pass(join: &Rules, in_set: &[bool], derived: &mut [bool]) -> Progress
+    requires over_base { AreRulesOver (length derived.old) join.now }
+    requires same_base { length in_set.now ≡ length derived.old }
+    requires marking { IsMarking join.now (flag_at in_set.now) (flag_at derived.old) }
+    ensures marking { IsMarking join.now (flag_at in_set.now) (flag_at derived.new) }
+    ensures progress { Progresses result join.now in_set.now derived.old derived.new }
+{
+    let rules = join.rules.as_slice();
     let mut progress = Progress::Still;
     for rule in rules {
         if let Some(head) = missing_head(rule, in_set, derived) {
@@ -71,16 +98,16 @@ fn pass(rules: &[GroundRule], in_set: &[bool], derived: &mut [bool]) -> Progress
 
 /// Marks the least model of the reduct, or gives `false` where the set is no model of it, and so can't be
 /// the least.
-pub(crate) fn mark_least_model(rules: &[GroundRule], in_set: &[bool], derived: &mut [bool]) -> bool
-    requires over_base { All (IsRuleOver (length derived.old)) rules.now }
+pub(crate) fn mark_least_model(join: &Rules, in_set: &[bool], derived: &mut [bool]) -> bool
+    requires over_base { AreRulesOver (length derived.old) join.now }
     requires same_base { length in_set.now ≡ length derived.old }
     ensures { MatchBool result
-        (IsLeastModel rules.now (flag_at in_set.now) (flag_at derived.new))
-        (¬ (IsReductModel rules.now (flag_at in_set.now) (flag_at in_set.now))) }
+        (IsLeastModel join.now (flag_at in_set.now) (flag_at derived.new))
+        (¬ (IsReductModel join.now (flag_at in_set.now) (flag_at in_set.now))) }
 {
-    derived.fill(false);
+    mark_inputs(join.inputs.as_slice(), in_set, derived);
     loop {
-        match pass(rules, in_set, derived) {
+        match pass(join, in_set, derived) {
             Progress::Still => return true,
             Progress::Marked => {}
             Progress::Outside => return false,

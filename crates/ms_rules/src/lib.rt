@@ -1,4 +1,4 @@
-// Ground rules, and the test whether a set of atoms is an answer set.
+// Ground rules and inputs, and the test whether a set of atoms is an answer set.
 #![tactic(auto)]
 
 mod answer_test;
@@ -9,11 +9,13 @@ mod scratch;
 pub use answer_test::is_answer;
 pub use ms_base::atom_id::AtomId;
 pub use ms_base::memory::OutOfMemory;
-pub use ms_join::ground_rule::{AtomIds, GroundKind, GroundRule, GroundRules, Rules};
+pub use ms_join::ground_module::{GroundModule, TermIds};
+pub use ms_join::ground_rule::{
+    AtomIds, GroundKind, GroundRule, GroundRules, Input, Inputs, Rules,
+};
+pub use ms_join::join_fault::JoinFault;
+pub use ms_join::truth::{Effect, Truth};
 pub use scratch::Scratch;
 
 /// A set of atoms: their numbers in rising order.
 pub type AtomSet = AtomIds;
-
-#[cfg(test)]
-mod tests;

@@ -1,3 +1,8 @@
-mod Filtered
-mod Fronts
-mod ShownLists
+mod Keeping
+mod Finding
+mod Rows
+mod Assumed
+mod Refusing
+mod Stepping
+mod Sealing
+mod Found

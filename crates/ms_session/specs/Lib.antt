@@ -1,3 +1,6 @@
-pub mod ShownLists
-pub mod Sound
 pub mod ReadText
+pub mod Kept
+pub mod Naming
+pub mod Steps
+pub mod Joining
+pub mod Assuming

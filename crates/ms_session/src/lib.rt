@@ -1,11 +1,15 @@
 // One step of the machine for each command.
 #![tactic(auto)]
 
-pub mod reply_text;
-pub mod session;
-pub mod shown;
-pub mod text;
+mod adding;
+mod atoms;
+mod grounding;
+mod reply_text;
+mod session;
+mod solving;
+mod text;
+mod value_term;
 
-pub use reply_text::print;
+pub use ms_base::memory::OutOfMemory;
+pub use ms_join::truth::{Effect, Truth};
 pub use session::Session;
-pub use shown::listing;

@@ -1,28 +1,36 @@
-ghost use Rattle.std.specs.Prelude.{◌≡◌, ℕ, ◌∷◌, ◌++◌, take, OnOk, OnErr};
+// The texts of replies.
+ghost use Rattle.std.specs.Prelude.{◌≡◌, ◌++◌, ◌∷◌, ◌<◌, All, codes, OnOk, OnErr, length};
 ghost use Rattle.std.specs.Fmt.{decimal};
-ghost use Rattle.std.specs.List.{flat_map};
-ghost use Rattle.ms_machine.specs.Replies.{answer_line, ending_line, line, refusal_line, reply_text};
-ghost use Rattle.ms_machine.specs.declared.reply.Reply.TheVariants.{Grounded, Solved};
+ghost use Rattle.ms_term.specs.Terms.{trees};
+ghost use Rattle.ms_machine.specs.Replies.{ending_line, line, refusal_line, reply_text, said_by};
+ghost use Rattle.ms_machine.specs.declared.reply.Reply.TheVariants.{Solved};
+ghost use Rattle.ms_machine.specs.Replies.{grounded};
+ghost use Rattle.ms_session.specs.Kept.{IsNamed};
 
 use ms_base::memory::OutOfMemory;
-use ms_base::seq::{Bytes, Seq};
-use ms_machine::reply::{Ending, Refusal, Reply};
+use ms_lits::Ending;
+use ms_machine::reply::{Refusal, Reply, Shown};
+use ms_term::Terms;
 
-/// Appends the text of a reply. Where there is no memory for it, a front of it was appended, or nothing.
-pub fn print(reply: &Reply, into: &mut Vec<u8>) -> Result<(), OutOfMemory>
-    ensures ok { OnOk result (into.new.items ≡ into.old.items ++ reply_text reply.now) }
-    ensures err { OnErr result ((k : ℕ)
-        × (into.new.items ≡ into.old.items ++ take k (reply_text reply.now))) }
+/// Appends the text of a reply whose names are in the table. Where there is no memory for it nothing was appended.
+pub(crate) fn print(terms: &Terms, reply: &Reply, into: &mut Vec<u8>) -> Result<(), OutOfMemory>
+    requires { IsNamed (length (trees terms.now)) reply.now }
+    ensures ok { OnOk result (into.new.items ≡ into.old.items ++ reply_text (said_by (trees terms.now) reply.now)) }
+    ensures err { OnErr result (into.new.items ≡ into.old.items) }
 {
     match reply {
         Reply::Added { count } => print_counted("added ", *count, into),
         Reply::Grounded { atoms, rules } => print_grounded(*atoms, *rules, into),
+        Reply::Assigned => put(b"assigned\n", into),
+        Reply::Released => put(b"released\n", into),
+        Reply::NoEffect => put(b"no effect\n", into),
         Reply::Solved {
             ending,
             count,
+            limit,
             shown,
-        } => print_solved(*ending, *count, shown.as_slice(), into),
-        Reply::Refused(refusal) => print_refusal(*refusal, into),
+        } => print_solved(terms, *ending, *count, *limit, shown, into),
+        Reply::Refused(refusal) => print_refusal(refusal, into),
     }
 }
 
@@ -45,167 +53,97 @@ fn print_counted(words: &str, number: u64, into: &mut Vec<u8>) -> Result<(), Out
 }
 
 fn print_grounded(atoms: u64, rules: u64, into: &mut Vec<u8>) -> Result<(), OutOfMemory>
-    ensures ok { OnOk result (into.new.items ≡ into.old.items ++ reply_text (Grounded atoms rules)) }
+    ensures ok { OnOk result (into.new.items ≡ into.old.items ++ reply_text (grounded atoms rules)) }
     ensures err { OnErr result (into.new.items ≡ into.old.items) }
 {
     let text = format!(in *into.allocator(); "grounded atoms={atoms} rules={rules}\n")?;
     put(text.as_bytes(), into)
 }
 
-fn print_refusal(refusal: Refusal, into: &mut Vec<u8>) -> Result<(), OutOfMemory>
-    ensures ok { OnOk result (into.new.items ≡ into.old.items ++ refusal_line refusal) }
+fn print_refusal(refusal: &Refusal, into: &mut Vec<u8>) -> Result<(), OutOfMemory>
+    ensures ok { OnOk result (into.new.items ≡ into.old.items ++ refusal_line refusal.now) }
     ensures err { OnErr result (into.new.items ≡ into.old.items) }
 {
     match refusal {
         Refusal::Command => put(b"refused command\n", into),
         Refusal::Unfinished => put(b"refused unfinished\n", into),
-        Refusal::Syntax { line } => print_counted("refused syntax ", line, into),
-        Refusal::Const { line } => print_counted("refused const ", line, into),
-        Refusal::Again => put(b"refused again\n", into),
+        Refusal::Syntax { line } => print_counted("refused syntax ", *line, into),
+        Refusal::Const { line } => print_counted("refused const ", *line, into),
         Refusal::Later => put(b"refused later\n", into),
+        Refusal::TooLarge => put(b"refused too-large\n", into),
+        Refusal::TooMany => put(b"refused too-many\n", into),
+        Refusal::Redefined { atom } => print_redefined(atom.as_slice(), into),
+        Refusal::CrossLoop { new_head, old } => {
+            print_loop(new_head.as_slice(), old.as_slice(), into)
+        }
         Refusal::Small => put(b"refused small\n", into),
     }
 }
 
-fn print_ending(ending: Ending, count: u64, into: &mut Vec<u8>) -> Result<(), OutOfMemory>
-    ensures ok { OnOk result (into.new.items ≡ into.old.items ++ ending_line ending count) }
+fn print_redefined(atom: &[u8], into: &mut Vec<u8>) -> Result<(), OutOfMemory>
+    ensures ok { OnOk result (into.new.items ≡ into.old.items ++ line (codes "refused redefined " ++ atom.now)) }
+    ensures err { OnErr result (into.new.items ≡ into.old.items) }
+{
+    let mut text = b"refused redefined ".to_vec(*into.allocator())?;
+    text.extend_from_slice(atom)?;
+    text.push(b'\n')?;
+    put(text.as_slice(), into)
+}
+
+fn print_loop(new_head: &[u8], old: &[u8], into: &mut Vec<u8>) -> Result<(), OutOfMemory>
+    ensures ok { OnOk result
+        (into.new.items ≡ into.old.items ++ line (codes "refused loop " ++ new_head.now ++ 32 ∷ old.now)) }
+    ensures err { OnErr result (into.new.items ≡ into.old.items) }
+{
+    let mut text = b"refused loop ".to_vec(*into.allocator())?;
+    text.extend_from_slice(new_head)?;
+    text.push(b' ')?;
+    text.extend_from_slice(old)?;
+    text.push(b'\n')?;
+    put(text.as_slice(), into)
+}
+
+fn print_ending(
+    ending: Ending,
+    count: u64,
+    limit: u64,
+    into: &mut Vec<u8>,
+) -> Result<(), OutOfMemory>
+    ensures ok { OnOk result (into.new.items ≡ into.old.items ++ ending_line ending count limit) }
     ensures err { OnErr result (into.new.items ≡ into.old.items) }
 {
     match ending {
         Ending::Complete => print_counted("complete ", count, into),
         Ending::StillOpen => print_counted("open ", count, into),
+        Ending::Cut => print_cut(count, limit, into),
     }
 }
 
+fn print_cut(count: u64, limit: u64, into: &mut Vec<u8>) -> Result<(), OutOfMemory>
+    ensures ok { OnOk result (into.new.items
+        ≡ into.old.items ++ line (codes "cut " ++ decimal count ++ codes " limit=" ++ decimal limit)) }
+    ensures err { OnErr result (into.new.items ≡ into.old.items) }
+{
+    let text = format!(in *into.allocator(); "cut {count} limit={limit}\n")?;
+    put(text.as_bytes(), into)
+}
+
+/// Appends a line for each answer set, and the ending.
 fn print_solved(
+    terms: &Terms,
     ending: Ending,
     count: u64,
-    shown: &[Seq<Bytes>],
+    limit: u64,
+    shown: &Shown,
     into: &mut Vec<u8>,
 ) -> Result<(), OutOfMemory>
-    ensures ok { OnOk result (into.new.items ≡ into.old.items ++ reply_text (Solved ending count shown.now)) }
-    ensures err { OnErr result ((k : ℕ)
-        × (into.new.items ≡ into.old.items ++ take k (reply_text (Solved ending count shown.now)))) }
+    requires { All (All (λ t. t < length (trees terms.now))) shown.now }
+    ensures ok { OnOk result (into.new.items
+        ≡ into.old.items ++ reply_text (said_by (trees terms.now) (Solved ending count limit shown.now))) }
+    ensures err { OnErr result (into.new.items ≡ into.old.items) }
 {
-    print_answers(shown, into)?;
-    print_ending(ending, count, into)
-}
-
-/// Appends a line for each answer set.
-fn print_answers(shown: &[Seq<Bytes>], into: &mut Vec<u8>) -> Result<(), OutOfMemory>
-    ensures ok { OnOk result (into.new.items ≡ into.old.items ++ flat_map answer_line shown.now) }
-    ensures err { OnErr result ((k : ℕ)
-        × (into.new.items ≡ into.old.items ++ take k (flat_map answer_line shown.now))) }
-{
-    for names in shown {
-        print_answer(names.as_slice(), into)?;
-    }
-    Ok(())
-}
-
-/// Appends the line of one answer set.
-fn print_answer(names: &[Bytes], into: &mut Vec<u8>) -> Result<(), OutOfMemory>
-    ensures ok { OnOk result (into.new.items ≡ into.old.items ++ answer_line names.now) }
-    ensures err { OnErr result ((k : ℕ)
-        × (into.new.items ≡ into.old.items ++ take k (answer_line names.now))) }
-{
-    put(b"answer:", into)?;
-    for name in names {
-        print_name(name.as_slice(), into)?;
-    }
-    put(b"\n", into)
-}
-
-/// Appends a blank and a name.
-fn print_name(name: &[u8], into: &mut Vec<u8>) -> Result<(), OutOfMemory>
-    ensures ok { OnOk result (into.new.items ≡ into.old.items ++ 32 ∷ name.now) }
-    ensures err { OnErr result ((k : ℕ) × (into.new.items ≡ into.old.items ++ take k (32 ∷ name.now))) }
-{
-    put(b" ", into)?;
-    put(name, into)
-}
-
-#[cfg(test)]
-mod tests {
-    use super::*;
-    use std::alloc::{AllocError, Global};
-    use std::test::Fail;
-
-    fn names(alloc: Global, texts: &[&str]) -> Result<Seq<Bytes>, AllocError> {
-        let mut names = Vec::new(alloc);
-        for text in texts {
-            names.push(Bytes::copied(alloc, text.as_bytes())?)?;
-        }
-        Ok(Seq::from_vec(names))
-    }
-
-    fn solved(
-        alloc: Global,
-        ending: Ending,
-        count: u64,
-        lists: &[&[&str]],
-    ) -> Result<Reply, AllocError> {
-        let mut shown = Vec::new(alloc);
-        for list in lists {
-            shown.push(names(alloc, list)?)?;
-        }
-        Ok(Reply::Solved {
-            ending,
-            count,
-            shown: Seq::from_vec(shown),
-        })
-    }
-
-    fn replies(alloc: Global) -> Result<Vec<Reply>, AllocError> {
-        let mut replies = Vec::new(alloc);
-        replies.push(Reply::Added { count: 0 })?;
-        replies.push(Reply::Added { count: u64::MAX })?;
-        replies.push(Reply::Grounded {
-            atoms: 3,
-            rules: 12,
-        })?;
-        replies.push(solved(alloc, Ending::Complete, 2, &[&["a", "b_1"], &["a"]])?)?;
-        replies.push(solved(alloc, Ending::Complete, 1, &[&[]])?)?;
-        replies.push(solved(alloc, Ending::Complete, 0, &[])?)?;
-        replies.push(solved(alloc, Ending::StillOpen, 1, &[&["x"]])?)?;
-        replies.push(Reply::Refused(Refusal::Command))?;
-        replies.push(Reply::Refused(Refusal::Unfinished))?;
-        replies.push(Reply::Refused(Refusal::Syntax { line: 70 }))?;
-        replies.push(Reply::Refused(Refusal::Const { line: 7 }))?;
-        replies.push(Reply::Refused(Refusal::Again))?;
-        replies.push(Reply::Refused(Refusal::Later))?;
-        replies.push(Reply::Refused(Refusal::Small))?;
-        Ok(replies)
-    }
-
-    const TEXTS: [&str; 14] = [
-        "added 0\n",
-        "added 18446744073709551615\n",
-        "grounded atoms=3 rules=12\n",
-        "answer: a b_1\nanswer: a\ncomplete 2\n",
-        "answer:\ncomplete 1\n",
-        "complete 0\n",
-        "answer: x\nopen 1\n",
-        "refused command\n",
-        "refused unfinished\n",
-        "refused syntax 70\n",
-        "refused const 7\n",
-        "refused again\n",
-        "refused later\n",
-        "refused small\n",
-    ];
-
-    #[test]
-    fn appends_the_text(rt: HostRuntime) -> Result<(), Fail> {
-        let alloc = rt.alloc();
-        let replies = replies(alloc)?;
-        assert_eq!(rt; replies.len(), TEXTS.len());
-        for (reply, want) in replies.iter().zip(&TEXTS) {
-            let mut printed = b"> ".to_vec(alloc)?;
-            print(reply, &mut printed)?;
-            let all = format!(in alloc; "> {want}")?;
-            assert_eq!(rt; printed.as_slice(), all.as_bytes(), "{want}");
-        }
-        Ok(())
-    }
+    let mut text = Vec::new(*into.allocator());
+    ms_show::print(terms, shown, &mut text)?;
+    print_ending(ending, count, limit, &mut text)?;
+    put(text.as_slice(), into)
 }

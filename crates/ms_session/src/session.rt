@@ -1,138 +1,287 @@
-ghost use Rattle.std.specs.Prelude.{◌≡◌, IfOk, OnErr};
-ghost use Rattle.ms_command.specs.declared.command.Command.TheVariants.{Add, Ground, Solve};
-ghost use Rattle.ms_machine.specs.Machine.{Step, start};
+// Sessions: one step of the machine for each command, until there is no memory.
+ghost use Rattle.std.specs.Prelude.{◌≡◌, ◌≤◌, ℕ, [], false, true, ◌++◌, IfOk, OnOk, OnErr, length, take};
+ghost use Rattle.std.specs.Option.{option_copied};
+ghost use Rattle.ms_core.specs.Texts.{constant};
+ghost use Rattle.ms_call.specs.declared.command.Command.TheVariants.{Add, Assign, Ground, Release, Solve};
+ghost use Rattle.ms_machine.specs.Listing.{tree_of_value};
+ghost use Rattle.ms_machine.specs.Machine.{start};
+ghost use Rattle.ms_machine.specs.Replies.{reply_text, said_by};
+ghost use Rattle.ms_session.specs.Kept.{Assigns, IsDone, IsFound, IsGiven, IsNamed, IsSealed, Releases, state_of, table_of};
+ghost use Rattle.ms_session.specs.Steps.{HasCount};
 
-use crate::shown::listing;
-use crate::text::{TextFault, read};
+use crate::adding::add_text;
+use crate::atoms::find_atom;
+use crate::grounding::ground_calls;
+use crate::reply_text::print;
+use crate::solving::solve_join;
+use ms_atombase::AtomBase;
+use ms_base::atom_id::AtomId;
 use ms_base::memory::OutOfMemory;
 use ms_base::seq::Seq;
-use ms_command::command::Command;
-use ms_grammar::statement::Names;
-use ms_ground::ground;
-use ms_join::ground_rule::Rules;
-use ms_machine::reply::{Refusal, Reply};
-use ms_parts::{Parts, PartsFault};
-use ms_plain::plain_rules;
-use ms_subsets::answer_sets;
+use ms_call::command::{Assumptions, Calls, Command};
+use ms_grammar::value::Value;
+use ms_join::truth::{Effect, Truth};
+use ms_lits::Notes;
+use ms_machine::reply::Reply;
+use ms_module::Join;
+use ms_parts::Parts;
+use ms_term::Terms;
 use std::alloc::Global;
 use std::marker::Model;
 
-/// How many answer sets `@solve all` asks for.
-pub const ALL_COUNT: u64 = 1_000_000;
-
-/// How many atoms a base may have of which every set is tried.
-pub const MOST_TRIED: usize = 20;
-
-/// A solver that lives on while its program grows. Contracts see it as the state of the machine.
+/// A solver that lives on while its program grows. A call that answers want of memory seals it, and from then on each
+/// call that may fail answers want of memory and changes nothing.
+///
+/// Contracts see what it keeps as a record, and the state of the machine as `state_of`.
 #[derive(Drop)]
 pub struct Session {
     parts: Parts,
-    is_grounded: bool,
-    names: Names,
-    rules: Rules,
+    terms: Terms,
+    base: AtomBase,
+    join: Join,
+    sealed: bool,
+    notes: Notes,
 }
 
 impl Model for Session {
-    ghost use Rattle.ms_machine.specs.Machine.{State};
-    ghost use Rattle.ms_session.specs.Sound.{IsSound};
-    ghost use Rattle.ms_grammar.specs.contracts.term.TextTerm as t;
-    ghost use Rattle.ms_grammar.specs.contracts.value.Value as v;
+    ghost use Rattle.std.specs.Prelude.{◌≡◌, [], false};
     ghost use Rattle.std.specs.Coded.{codes};
+    ghost use Rattle.ms_term.specs.Terms.{trees};
+    ghost use Rattle.ms_grammar.specs.contracts.term.TextTerm as term;
+    ghost use Rattle.ms_grammar.specs.contracts.value.Value as value;
+    ghost use Rattle.ms_session.specs.Kept.{Kept, IsSound};
 
-    ghost Value = { State };
+    ghost Value = { Kept };
 
-    ghost coded = { Prim.hlevel (codes, t.the_row.coded, v.the_row.coded) };
+    ghost coded = { Prim.hlevel (codes, term.the_row.coded, value.the_row.coded) };
 
-    ghost view = { λ s. record { texts = s.parts; is_grounded = s.is_grounded; names = s.names; rules = s.rules.rules } };
+    ghost view = { λ s. record { sealed = s.sealed; nodes = s.terms; texts = s.parts; base = s.base; join = s.join } };
 
-    ghost invariant = { λ s. IsSound s.names s.rules.rules };
+    ghost invariant = { λ s. (s.notes ≡ []) × (s.sealed ≡ false → IsSound (trees s.terms) s.base s.join) };
 }
 
 impl Session {
     /// A session before its first command.
     pub fn new(alloc: Global) -> Session
-        ensures { result ≡ start }
+        ensures open { result.sealed ≡ false }
+        ensures start { state_of result ≡ start }
     {
         Session {
             parts: Parts::new(alloc),
-            is_grounded: false,
-            names: Seq::new(alloc),
-            rules: Rules {
-                rules: Seq::new(alloc),
-            },
+            terms: Terms::new(alloc),
+            base: AtomBase::new(alloc),
+            join: Join::new(alloc),
+            sealed: false,
+            notes: Seq::new(alloc),
         }
     }
 
-    /// One step of the machine. Where there is no memory for it the state stays.
-    pub fn step(&mut self, alloc: Global, command: &Command) -> Result<Reply, OutOfMemory>
-        ensures step { IfOk result (λ reply. Step self.old command.now reply self.new) }
-        ensures err { OnErr result (self.new ≡ self.old) }
+    /// Whether a call has answered want of memory.
+    pub fn sealed(&self) -> bool
+        ensures { result ≡ self.now.sealed }
+    {
+        self.sealed
+    }
+
+    /// The notes of the last command for the log. There are none yet.
+    pub fn notes(&self) -> &Notes
+        ensures { result.now ≡ [] }
+    {
+        &self.notes
+    }
+
+    /// The value of a constant, or none exactly where no such constant is known.
+    pub fn constant(&self, name: &[u8]) -> Option<&Value>
+        ensures { option_copied result ≡ constant self.now.texts name.now }
+    {
+        self.parts.constant(name)
+    }
+
+    /// Gives a value to a constant, which wins over what texts define.
+    pub fn set_const(&mut self, name: &[u8], value: Value) -> Result<(), OutOfMemory>
+        ensures ok { OnOk result (IsGiven self.old name.now value self.new) }
+        ensures err { OnErr result (IsSealed self.old self.new) }
+    {
+        if self.sealed {
+            return Err(OutOfMemory);
+        }
+        let given = self.parts.set_const(name, value);
+        self.sealed = given.is_err();
+        given
+    }
+
+    /// The number of an atom, or none exactly where the base has no such atom.
+    pub fn find(&mut self, alloc: Global, atom: &Value) -> Result<Option<AtomId>, OutOfMemory>
+        ensures ok { IfOk result (IsFound self.old (tree_of_value atom.now) self.new) }
+        ensures err { OnErr result (IsSealed self.old self.new) }
+    {
+        if self.sealed {
+            return Err(OutOfMemory);
+        }
+        let found = find_atom(alloc, &mut self.terms, &self.base, atom);
+        self.sealed = found.is_err();
+        found
+    }
+
+    /// Gives a truth to an input, which has no effect exactly where the atom is no input. It takes no memory, and
+    /// fails exactly where the session is sealed.
+    pub fn assign(&mut self, a: AtomId, truth: Truth) -> Result<Effect, OutOfMemory>
+        ensures ok { IfOk result (Assigns self.old a truth self.new) }
+        ensures open { OnOk result (self.old.sealed ≡ false) }
+        ensures err { OnErr result (self.old.sealed ≡ true) }
+        ensures same { OnErr result (self.new ≡ self.old) }
+    {
+        if self.sealed {
+            return Err(OutOfMemory);
+        }
+        Ok(self.join.assign(a, truth))
+    }
+
+    /// Makes an input false for good, which has no effect exactly where the atom is no input. It takes no memory, and
+    /// fails exactly where the session is sealed.
+    pub fn release(&mut self, a: AtomId) -> Result<Effect, OutOfMemory>
+        ensures ok { IfOk result (Releases self.old a self.new) }
+        ensures open { OnOk result (self.old.sealed ≡ false) }
+        ensures err { OnErr result (self.old.sealed ≡ true) }
+        ensures same { OnErr result (self.new ≡ self.old) }
+    {
+        if self.sealed {
+            return Err(OutOfMemory);
+        }
+        Ok(self.join.release(a))
+    }
+
+    /// Adds a text, or refuses it as the machine does.
+    pub fn add(&mut self, alloc: Global, text: &[u8]) -> Result<Reply, OutOfMemory>
+        ensures ok { IfOk result (IsDone self.old (Add text.now) self.new) }
+        ensures err { OnErr result (IsSealed self.old self.new) }
+    {
+        if self.sealed {
+            return Err(OutOfMemory);
+        }
+        let reply = add_text(alloc, &mut self.parts, text);
+        self.sealed = reply.is_err();
+        reply
+    }
+
+    /// Grounds calls of parts and joins their module, or refuses it as the machine does.
+    pub fn ground(&mut self, alloc: Global, calls: &Calls) -> Result<Reply, OutOfMemory>
+        ensures ok { IfOk result (IsDone self.old (Ground calls.now) self.new) }
+        ensures err { OnErr result (IsSealed self.old self.new) }
+    {
+        if self.sealed {
+            return Err(OutOfMemory);
+        }
+        let reply = ground_calls(
+            alloc,
+            &self.parts,
+            &mut self.terms,
+            &mut self.base,
+            &mut self.join,
+            calls,
+        );
+        self.sealed = reply.is_err();
+        reply
+    }
+
+    /// Lists as many answer sets as are asked for, at least one, or all that there are. A base of more than 20
+    /// atoms is refused.
+    pub fn solve(
+        &mut self,
+        alloc: Global,
+        count: u64,
+        limit: u64,
+        assume: &Assumptions,
+    ) -> Result<Reply, OutOfMemory>
+        requires { 1 ≤ count }
+        ensures ok { IfOk result (IsDone self.old (Solve count limit assume.now) self.new) }
+        ensures err { OnErr result (IsSealed self.old self.new) }
+    {
+        if self.sealed {
+            return Err(OutOfMemory);
+        }
+        let reply = solve_join(
+            alloc,
+            &self.parts,
+            &mut self.terms,
+            &self.base,
+            &self.join,
+            count,
+            limit,
+            assume,
+        );
+        self.sealed = reply.is_err();
+        reply
+    }
+
+    /// One step of the machine. A solve asks for at least one answer set. The reply is never `Refused(Command)` or
+    /// `Refused(Unfinished)`.
+    pub fn step(&mut self, alloc: Global, command: Command) -> Result<Reply, OutOfMemory>
+        requires { HasCount command }
+        ensures ok { IfOk result (IsDone self.old command self.new) }
+        ensures err { OnErr result (IsSealed self.old self.new) }
     {
         match command {
             Command::Add { text } => self.add(alloc, text.as_slice()),
-            Command::Ground => self.ground(alloc),
-            Command::Solve => self.solve(alloc),
+            Command::Ground { calls } => self.ground(alloc, &calls),
+            Command::Assign { atom, truth } => self.step_assign(alloc, &atom, truth),
+            Command::Release { atom } => self.step_release(alloc, &atom),
+            Command::Solve {
+                count,
+                limit,
+                assume,
+            } => self.solve(alloc, count, limit, &assume),
         }
     }
 
-    fn add(&mut self, alloc: Global, text: &[u8]) -> Result<Reply, OutOfMemory>
-        ensures step { IfOk result (λ reply. Step self.old (Add text.now) reply self.new) }
-        ensures err { OnErr result (self.new ≡ self.old) }
+    /// Gives a truth to the atom with this term.
+    fn step_assign(
+        &mut self,
+        alloc: Global,
+        atom: &Value,
+        truth: Truth,
+    ) -> Result<Reply, OutOfMemory>
+        ensures ok { IfOk result (IsDone self.old (Assign atom.now truth) self.new) }
+        ensures err { OnErr result (IsSealed self.old self.new) }
     {
-        let statements = match read(alloc, text) {
-            Ok(statements) => statements,
-            Err(TextFault::Syntax { line }) => {
-                return Ok(Reply::Refused(Refusal::Syntax { line }));
-            }
-            Err(TextFault::OutOfMemory) => return Err(OutOfMemory),
+        let Some(a) = self.find(alloc, atom)? else {
+            return Ok(Reply::NoEffect);
         };
-        match self.parts.add(statements) {
-            Ok(count) => Ok(Reply::Added { count }),
-            Err(PartsFault::ConstTwice { line }) => Ok(Reply::Refused(Refusal::Const { line })),
-            Err(PartsFault::OutOfMemory) => Err(OutOfMemory),
+        match self.assign(a, truth)? {
+            Effect::Done => Ok(Reply::Assigned),
+            Effect::NoEffect => Ok(Reply::NoEffect),
         }
     }
 
-    fn ground(&mut self, alloc: Global) -> Result<Reply, OutOfMemory>
-        ensures step { IfOk result (λ reply. Step self.old Ground reply self.new) }
-        ensures err { OnErr result (self.new ≡ self.old) }
+    /// Releases the atom with this term.
+    fn step_release(&mut self, alloc: Global, atom: &Value) -> Result<Reply, OutOfMemory>
+        ensures ok { IfOk result (IsDone self.old (Release atom.now) self.new) }
+        ensures err { OnErr result (IsSealed self.old self.new) }
     {
-        if self.is_grounded {
-            return Ok(Reply::Refused(Refusal::Again));
+        let Some(a) = self.find(alloc, atom)? else {
+            return Ok(Reply::NoEffect);
+        };
+        match self.release(a)? {
+            Effect::Done => Ok(Reply::Released),
+            Effect::NoEffect => Ok(Reply::NoEffect),
         }
-        let core = self.parts.core(alloc, b"base", &[])?;
-        let Some(plain) = plain_rules(alloc, core.as_slice())? else {
-            return Ok(Reply::Refused(Refusal::Later));
-        };
-        let module = ground(alloc, plain.as_slice())?;
-        let atoms = module.names.len() as u64;
-        let rules = module.rules.len() as u64;
-        self.names = module.names;
-        self.rules = Rules {
-            rules: module.rules,
-        };
-        self.is_grounded = true;
-        Ok(Reply::Grounded { atoms, rules })
     }
 
-    fn solve(&self, alloc: Global) -> Result<Reply, OutOfMemory>
-        ensures { IfOk result (λ reply. Step self.now Solve reply self.now) }
+    /// Appends the text of a reply that this session gave, or of another one without atoms. Where there is no memory
+    /// for it a front of it was appended, or nothing.
+    pub fn print(&mut self, reply: &Reply, into: &mut Vec<u8>) -> Result<(), OutOfMemory>
+        requires { IsNamed (length (table_of self.old)) reply.now }
+        ensures ok { OnOk result (into.new.items ≡ into.old.items ++ reply_text (said_by (table_of self.old) reply.now)) }
+        ensures open { OnOk result ((self.old.sealed ≡ false) × (self.new ≡ self.old)) }
+        ensures front { OnErr result ((k : ℕ) × (into.new.items
+            ≡ into.old.items ++ take k (reply_text (said_by (table_of self.old) reply.now)))) }
+        ensures err { OnErr result (IsSealed self.old self.new) }
     {
-        let atoms = self.names.len();
-        if atoms > MOST_TRIED {
-            return Ok(Reply::Refused(Refusal::Small));
+        if self.sealed {
+            return Err(OutOfMemory);
         }
-        let found = answer_sets(alloc, atoms as u32, &self.rules, ALL_COUNT)?;
-        let shown = listing(
-            alloc,
-            &self.parts,
-            self.names.as_slice(),
-            found.sets.as_slice(),
-        )?;
-        Ok(Reply::Solved {
-            ending: found.ending,
-            count: found.sets.len() as u64,
-            shown,
-        })
+        let printed = print(&self.terms, reply, into);
+        self.sealed = printed.is_err();
+        printed
     }
 }

@@ -5,8 +5,6 @@ mod arithmetic;
 mod node;
 mod term_id;
 mod terms;
-#[cfg(test)]
-mod tests;
 mod text;
 
 pub use arithmetic::arith;

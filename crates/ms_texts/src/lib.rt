@@ -20,6 +20,3 @@ pub use ms_grammar::value::Value;
 pub use part_sections::PartSections;
 pub use section::Section;
 pub use texts::Texts;
-
-#[cfg(test)]
-mod tests;

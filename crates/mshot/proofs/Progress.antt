@@ -1,110 +1,269 @@
 -- How the replies go on by one item.
-use Rattle.std.proofs.Common.{◌≡◌, ◌∙◌, ℕ, ◌+◌, Bool, false, ◌||◌, List, [], ◌∷◌, ◌++◌, length, take, Option, Some, sym, subst, ap, refl, append_assoc}
+use Rattle.std.proofs.Common.{◌≡◌, ◌∙◌, inl, inr, ℕ, ◌+◌, Bool, true, false, ◌||◌, List, [], ◌∷◌, ◌++◌, length, take, Option, Some, None, IsSome, Result, Ok, Err, IfOk, OnOk, OnErr, is_err, sym, subst, ap, refl, append_assoc}
 use Rattle.std.specs.List.{list_any}
+use Rattle.std.proofs.lemmas.Bool.{false≢true}
 use Rattle.std.proofs.lemmas.List.{append-nil}
 use Rattle.std.proofs.Math.Seq.{take-length, take-append-add}
 use Rattle.std.proofs.Math.Bool.{or-false, or_assoc}
-use Rattle.ms_command.specs.declared.command.ScriptItem.{ScriptItem}
-use Rattle.ms_machine.specs.declared.reply.Reply.{Reply}
-use Rattle.ms_command.specs.Script.{items_of}
-use Rattle.ms_machine.specs.Machine.{State, Takes, Run, start}
-use Rattle.ms_machine.specs.Replies.{replies_text, reply_text, is_refused}
-use Rattle.mshot.specs.Outcome.{WritesReplies, WritesFront, WritesFrontOf}
+use Rattle.ms_call.specs.Items.{Item, Open, HaveItems, HasItems, lines_in}
+use Rattle.ms_lines.specs.declared.Lines.{Lines}
+use Rattle.ms_lines.specs.Feeding.{HasLeft, SaysAtEnd}
+use Rattle.ms_machine.specs.declared.reply.Refusal.TheVariants.{Unfinished}
+use Rattle.ms_machine.specs.Machine.{State, start}
+use Rattle.ms_machine.specs.Replies.{Reply, refused, replies_text, reply_text, is_refused}
+use Rattle.ms_machine.specs.Scripts.{Takes, Run, Replies, reply_at_end}
+use Rattle.mshot.specs.Outcome.{WritesReplies}
+use Rattle.mshot.specs.Serving.{HasSaid, HasAnswered, HasStopped, WritesFrontOf}
 
 -- a run goes on by one item
-pub Run-push : (a b c : State) (items : List ScriptItem) (replies : List Reply) (item : ScriptItem) (reply : Reply) → Run a items replies b → Takes b item reply c → Run a (items ++ item ∷ []) (replies ++ reply ∷ []) c
+pub Run-push : (a b c : State) (items : List Item) (replies : List Reply) (item : Item) (reply : Reply) → Run a items replies b → Takes b item reply c → Run a (items ++ item ∷ []) (replies ++ reply ∷ []) c
 unfolding Run
 Run-push a b c [] [] item reply run step = (c, subst (λ s. Takes s item reply c) run step, refl)
 Run-push a b c [] (r ∷ rs) item reply run step = absurd run
 Run-push a b c (i ∷ is) [] item reply run step = absurd run
 Run-push a b c (i ∷ is) (r ∷ rs) item reply (mid, first, run) step = (mid, first, Run-push mid b c is rs item reply run step)
 
-flat_map-push : (replies : List Reply) (reply : Reply) → replies_text (replies ++ reply ∷ []) ≡ replies_text replies ++ reply_text reply
-flat_map-push [] reply = append-nil (reply_text reply)
-flat_map-push (r ∷ rs) reply = ap (λ t. reply_text r ++ t) (flat_map-push rs reply) ∙ sym (append_assoc (reply_text r) (replies_text rs) (reply_text reply))
-
-list_any-push : (replies : List Reply) (reply : Reply) → list_any is_refused (replies ++ reply ∷ []) ≡ (list_any is_refused replies || is_refused reply)
-list_any-push [] reply = or-false (is_refused reply)
-list_any-push (r ∷ rs) reply = ap (λ b. is_refused r || b) (list_any-push rs reply) ∙ sym (or_assoc (is_refused r) (list_any is_refused rs) (is_refused reply))
-
--- A front of the script has its replies, and the rest follows.
-pub record HasAnswered (script rest : List ℕ) (state : State) (refused : Bool) (held : List ℕ) (now : Option (List ℕ)) : Type 0 where
-  pub front : List ScriptItem
-  pub split : items_of script ≡ front ++ items_of rest
-  pub replies : List Reply
-  pub run : Run start front replies state
-  pub written : now ≡ Some (held ++ replies_text replies)
-  pub refusals : list_any is_refused replies ≡ refused
-
-pub answered_none : (script : List ℕ) (state : State) (held : List ℕ) (now : Option (List ℕ)) → state ≡ start → now ≡ Some held → HasAnswered script script state false held now
+pub run_nothing : (state : State) → state ≡ start → Run start [] [] state
 unfolding Run
-answered_none script state held now is at = record {
+run_nothing state is = is
+
+replies_text-push : (replies : List Reply) (reply : Reply) → replies_text (replies ++ reply ∷ []) ≡ replies_text replies ++ reply_text reply
+replies_text-push [] reply = append-nil (reply_text reply)
+replies_text-push (r ∷ rs) reply = ap (λ t. reply_text r ++ t) (replies_text-push rs reply) ∙ sym (append_assoc (reply_text r) (replies_text rs) (reply_text reply))
+
+refusals-push : (replies : List Reply) (reply : Reply) → list_any is_refused (replies ++ reply ∷ []) ≡ (list_any is_refused replies || is_refused reply)
+refusals-push [] reply = or-false (is_refused reply)
+refusals-push (r ∷ rs) reply = ap (λ b. is_refused r || b) (refusals-push rs reply) ∙ sym (or_assoc (is_refused r) (list_any is_refused rs) (is_refused reply))
+
+or-true : (b : Bool) → (b || true) ≡ true
+or-true true = refl
+or-true false = refl
+
+-- the same bytes, as a front of the replies with one more
+cut_written : (held : List ℕ) (replies : List Reply) (reply : Reply) (count : ℕ) → held ++ replies_text replies ++ take count (reply_text reply) ≡ held ++ take (length (replies_text replies) + count) (replies_text (replies ++ reply ∷ []))
+cut_written held replies reply count =
+    append_assoc held (replies_text replies) (take count (reply_text reply))
+    ∙ ap (λ t. held ++ t) (sym (take-append-add (replies_text replies) (reply_text reply) count))
+    ∙ ap (λ t. held ++ take (length (replies_text replies) + count) t) (sym (replies_text-push replies reply))
+
+one_written : (held : List ℕ) (replies : List Reply) (reply : Reply) → held ++ replies_text replies ++ reply_text reply ≡ held ++ replies_text (replies ++ reply ∷ [])
+one_written held replies reply = append_assoc held (replies_text replies) (reply_text reply) ∙ ap (λ t. held ++ t) (sym (replies_text-push replies reply))
+
+-- what the script said
+pub said_first : (script : List ℕ) (before lines : Lines) → before ≡ record { text = None; rest = [] } → lines ≡ record before { rest = before.rest ++ script } → HasSaid script [] lines
+said_first script before lines none fed items cut =
+    let text : lines.text ≡ None = ap (λ l. l.text) fed ∙ ap (λ l. l.text) none in
+    let rest : lines.rest ++ [] ≡ script = append-nil lines.rest ∙ ap (λ l. l.rest) fed ∙ ap (λ l. l.rest ++ script) none in (
+      λ has. (items, refl, subst (λ t. HaveItems t (lines_in true (lines.rest ++ [])) items cut) (sym text) (subst (λ r. HaveItems None (lines_in true r) items cut) (sym rest) has)),
+      λ more.
+          subst (λ is. HasItems None script is cut) (sym more.1)
+          (subst (λ r. HaveItems None (lines_in true r) more.0 cut) rest (subst (λ t. HaveItems t (lines_in true (lines.rest ++ [])) more.0 cut) text more.2)),
+    )
+
+module _ (script : List ℕ) (front : List Item) (lines after : Lines) where
+  said_more : (item : Item) → HasSaid script front lines → SaysAtEnd lines (Some item) after → HasSaid script (front ++ item ∷ []) after
+  said_more item said next items cut = (
+    λ has.
+        let b = (said items cut).0 has in
+        let c = (next b.0 cut).0 b.2 in
+        (c.0, b.1 ∙ ap (λ is. front ++ is) c.1 ∙ sym (append_assoc front (item ∷ []) c.0), c.2),
+    λ more. (said items cut).1 (item ∷ more.0, more.1 ∙ append_assoc front (item ∷ []) more.0, (next (item ∷ more.0) cut).1 (more.0, refl, more.2)),
+  )
+
+  said_nothing : HasSaid script front lines → SaysAtEnd lines None after → HasSaid script front after
+  said_nothing said next items cut = (
+    λ has.
+        let b = (said items cut).0 has in
+        let c = (next b.0 cut).0 b.2 in
+        (c.0, b.1 ∙ ap (λ is. front ++ is) c.1, c.2),
+    λ more. (said items cut).1 (more.0, more.1, (next more.0 cut).1 (more.0, refl, more.2)),
+  )
+
+-- nothing is left to read
+left_open : (lines : Lines) → lines.rest ≡ [] → HasLeft lines true [] [] lines.text
+unfolding HaveItems lines_in
+left_open lines none = subst (λ rest. HaveItems lines.text (lines_in true (rest ++ [])) [] lines.text) (sym none) (refl, refl)
+
+-- no item has its reply yet
+pub answered_none : (script : List ℕ) (lines : Lines) (state : State) (held : List ℕ) (now : Option (List ℕ)) → HasSaid script [] lines → state ≡ start → now ≡ Some held → HasAnswered script lines state false held now
+answered_none script lines state held now said first at = record {
   front = [];
-  split = refl;
+  said = said;
   replies = [];
-  run = is;
+  run = run_nothing state first;
   written = at ∙ ap Some (sym (append-nil held));
   refusals = refl;
 }
 
-pub answered_more : (script rest after : List ℕ) (old new : State) (item : ScriptItem) (reply : Reply) (refused more : Bool) (held : List ℕ) (now next : Option (List ℕ)) → HasAnswered script rest old refused held now → items_of rest ≡ item ∷ items_of after → Takes old item reply new → ((text : List ℕ) → now ≡ Some text → next ≡ Some (text ++ reply_text reply)) → more ≡ (refused || is_refused reply) → HasAnswered script after new more held next
-answered_more script rest after old new item reply refused more held now next done items step put is = record {
-  front = done.front ++ item ∷ [];
-  split = done.split ∙ ap (λ i. done.front ++ i) items ∙ sym (append_assoc done.front (item ∷ []) (items_of after));
-  replies = done.replies ++ reply ∷ [];
-  run = Run-push start old new done.front done.replies item reply done.run step;
-  written = put (held ++ replies_text done.replies) done.written ∙ ap Some (append_assoc held (replies_text done.replies) (reply_text reply) ∙ ap (λ t. held ++ t) (sym (flat_map-push done.replies reply)));
-  refusals = list_any-push done.replies reply ∙ ap (λ b. b || is_refused reply) done.refusals ∙ sym is;
-}
+module _ (script : List ℕ) (lines : Lines) (state : State) (refusal : Bool) (held : List ℕ) (now : Option (List ℕ)) (done : HasAnswered script lines state refusal held now) where
+  -- it stops between two items
+  pub answered_front : HasStopped script held now
+  answered_front = (
+    held ++ replies_text done.replies,
+    done.written,
+    record {
+      replies = done.replies;
+      to_front = inl (record {
+        front = done.front;
+        begins = λ items cut has.
+            let b = (done.said items cut).0 has in
+            (b.0, b.1);
+        last = state;
+        run = done.run;
+      });
+      count = length (replies_text done.replies);
+      written = ap (λ t. held ++ t) (sym (take-length (replies_text done.replies)));
+    },
+  )
 
--- nothing is left
-pub answered_all : (script rest : List ℕ) (state : State) (refused : Bool) (held : List ℕ) (now : Option (List ℕ)) → HasAnswered script rest state refused held now → items_of rest ≡ [] → (text : List ℕ) × (now ≡ Some text) × WritesReplies refused script held text
-answered_all script rest state refused held now done none = (
-  held ++ replies_text done.replies,
-  done.written,
-  record {
-    replies = done.replies;
-    last = state;
-    run = subst (λ i. Run start i done.replies state) (sym (done.split ∙ ap (λ i. done.front ++ i) none ∙ append-nil done.front)) done.run;
-    written = refl;
-    refusals = done.refusals;
-  },
-)
-
--- it stops between two items
-pub answered_front : (script rest : List ℕ) (state : State) (refused : Bool) (held : List ℕ) (now : Option (List ℕ)) → HasAnswered script rest state refused held now → (text : List ℕ) × (now ≡ Some text) × WritesFront script held text
-answered_front script rest state refused held now done = (
-  held ++ replies_text done.replies,
-  done.written,
-  record {
+  -- the script says nothing more
+  pub answered_end : (after : Lines) → SaysAtEnd lines None after → HasAnswered script after state refusal held now
+  answered_end after next = record {
     front = done.front;
-    back = items_of rest;
-    split = done.split;
+    said = said_nothing script done.front lines after done.said next;
     replies = done.replies;
-    last = state;
     run = done.run;
-    count = length (replies_text done.replies);
-    written = ap (λ t. held ++ t) (sym (take-length (replies_text done.replies)));
-  },
-)
+    written = done.written;
+    refusals = done.refusals;
+  }
 
--- it stops inside a reply
-pub answered_part : (script rest after : List ℕ) (old new : State) (item : ScriptItem) (reply : Reply) (refused : Bool) (held : List ℕ) (now next : Option (List ℕ)) → HasAnswered script rest old refused held now → items_of rest ≡ item ∷ items_of after → Takes old item reply new → ((text : List ℕ) → now ≡ Some text → WritesFrontOf (reply_text reply) text next) → (text : List ℕ) × (next ≡ Some text) × WritesFront script held text
-answered_part script rest after old new item reply refused held now next done items step put =
-    let part = put (held ++ replies_text done.replies) done.written in
-    let before = replies_text done.replies in
-    let cut : take (length before + part.0) (replies_text (done.replies ++ reply ∷ [])) ≡ before ++ take part.0 (reply_text reply) =
-    ap (λ t. take (length before + part.0) t) (flat_map-push done.replies reply) ∙ take-append-add before (reply_text reply) part.0 in (
-      held ++ before ++ take part.0 (reply_text reply),
-      part.1,
+  -- one more reply, whole or in part
+  module _ (after : Lines) (new : State) (item : Item) (reply : Reply) (says : SaysAtEnd lines (Some item) after) (step : Takes state item reply new) (next : Option (List ℕ)) where
+    pub answered_more : (more : Bool) → more ≡ (refusal || is_refused reply) → ((text : List ℕ) → now ≡ Some text → next ≡ Some (text ++ reply_text reply)) → HasAnswered script after new more held next
+    answered_more more is put = record {
+      front = done.front ++ item ∷ [];
+      said = said_more script done.front lines after item done.said says;
+      replies = done.replies ++ reply ∷ [];
+      run = Run-push start state new done.front done.replies item reply done.run step;
+      written = put (held ++ replies_text done.replies) done.written ∙ ap Some (one_written held done.replies reply);
+      refusals = refusals-push done.replies reply ∙ ap (λ b. b || is_refused reply) done.refusals ∙ sym is;
+    }
+
+    pub answered_part : ((text : List ℕ) → now ≡ Some text → WritesFrontOf (reply_text reply) text next) → HasStopped script held next
+    answered_part put =
+        let part = put (held ++ replies_text done.replies) done.written in (
+          held ++ replies_text done.replies ++ take part.0 (reply_text reply),
+          part.1,
+          record {
+            replies = done.replies ++ reply ∷ [];
+            to_front = inl (record {
+              front = done.front ++ item ∷ [];
+              begins = λ items cut has.
+                  let b = (said_more script done.front lines after item done.said says items cut).0 has in
+                  (b.0, b.1);
+              last = new;
+              run = Run-push start state new done.front done.replies item reply done.run step;
+            });
+            count = length (replies_text done.replies) + part.0;
+            written = cut_written held done.replies reply part.0;
+          },
+        )
+
+  -- the script is read to its end
+  module _ (none : lines.rest ≡ []) where
+    all_replies : (ends : List Reply) → reply_at_end lines.text ≡ ends → Replies script (done.replies ++ ends)
+    all_replies ends are = record {
+      items = done.front;
+      cut = lines.text;
+      has = (done.said done.front lines.text).1 ([], sym (append-nil done.front), left_open lines none);
+      to_items = done.replies;
+      last = state;
+      run = done.run;
+      all = ap (λ e. done.replies ++ e) (sym are);
+    }
+
+    -- and no text is open
+    pub ended_whole : reply_at_end lines.text ≡ [] → (text : List ℕ) × (now ≡ Some text) × WritesReplies refusal script held text
+    ended_whole are = (
+      held ++ replies_text done.replies,
+      done.written,
       record {
-        front = done.front ++ item ∷ [];
-        back = items_of after;
-        split = done.split ∙ ap (λ i. done.front ++ i) items ∙ sym (append_assoc done.front (item ∷ []) (items_of after));
-        replies = done.replies ++ reply ∷ [];
-        last = new;
-        run = Run-push start old new done.front done.replies item reply done.run step;
-        count = length before + part.0;
-        written = append_assoc held before (take part.0 (reply_text reply)) ∙ ap (λ t. held ++ t) (sym cut);
+        replies = done.replies;
+        to_script = subst (λ rs. Replies script rs) (append-nil done.replies) (all_replies [] are);
+        written = refl;
+        refusals = done.refusals;
       },
     )
+
+    -- or one is
+    module _ (are : reply_at_end lines.text ≡ refused Unfinished ∷ []) (next : Option (List ℕ)) where
+      pub cut_whole : (more : Bool) → more ≡ true → ((text : List ℕ) → now ≡ Some text → next ≡ Some (text ++ reply_text (refused Unfinished))) → (text : List ℕ) × (next ≡ Some text) × WritesReplies more script held text
+      cut_whole more is put = (
+        held ++ replies_text (done.replies ++ refused Unfinished ∷ []),
+        put (held ++ replies_text done.replies) done.written ∙ ap Some (one_written held done.replies (refused Unfinished)),
+        record {
+          replies = done.replies ++ refused Unfinished ∷ [];
+          to_script = all_replies (refused Unfinished ∷ []) are;
+          written = refl;
+          refusals = refusals-push done.replies (refused Unfinished) ∙ or-true (list_any is_refused done.replies) ∙ sym is;
+        },
+      )
+
+      pub cut_part : ((text : List ℕ) → now ≡ Some text → WritesFrontOf (reply_text (refused Unfinished)) text next) → HasStopped script held next
+      cut_part put =
+          let part = put (held ++ replies_text done.replies) done.written in (
+            held ++ replies_text done.replies ++ take part.0 (reply_text (refused Unfinished)),
+            part.1,
+            record {
+              replies = done.replies ++ refused Unfinished ∷ [];
+              to_front = inr (all_replies (refused Unfinished ∷ []) are);
+              count = length (replies_text done.replies) + part.0;
+              written = cut_written held done.replies (refused Unfinished) part.0;
+            },
+          )
+
+-- it stops before the first item
+pub stopped_before : (script held : List ℕ) (now : Option (List ℕ)) → now ≡ Some held → HasStopped script held now
+stopped_before script held now at = (
+  held,
+  at,
+  record {
+    replies = [];
+    to_front = inl (record { front = []; begins = λ items cut has. (items, refl); last = start; run = run_nothing start refl });
+    count = 0;
+    written = sym (append-nil held);
+  },
+)
+
+-- whether a text is open at the end
+pub some_at_end : (cut : Open) → IsSome cut → reply_at_end cut ≡ refused Unfinished ∷ []
+some_at_end (Some text) is = refl
+some_at_end None is = absurd (false≢true is)
+
+pub none_at_end : (cut : Open) → ¬ IsSome cut → reply_at_end cut ≡ []
+none_at_end (Some text) is = absurd (is refl)
+none_at_end None is = refl
+
+-- what the last reply leaves, where a text is open
+module _ (lines : Lines) (state : State) (refusal : Bool) (before after : Option (List ℕ)) (none : lines.rest ≡ []) (are : reply_at_end lines.text ≡ refused Unfinished ∷ []) {E : Type 0} where
+  pub cut_replies : (r : Result Bool E) → IfOk r (λ more. more ≡ true) → OnOk r ((held : List ℕ) → before ≡ Some held → after ≡ Some (held ++ reply_text (refused Unfinished)))
+      → IfOk r (λ more. (script held : List ℕ) → HasAnswered script lines state refusal held before → (now : List ℕ) × (after ≡ Some now) × WritesReplies more script held now)
+  cut_replies (Ok more) is put = λ script held done. cut_whole script lines state refusal held before done none are after more is put
+  cut_replies (Err stop) is put = tt
+
+  pub cut_stopped : (r : Result Bool E) → OnErr r ((held : List ℕ) → before ≡ Some held → WritesFrontOf (reply_text (refused Unfinished)) held after)
+      → OnErr r ((script held : List ℕ) → HasAnswered script lines state refusal held before → HasStopped script held after)
+  cut_stopped (Ok more) put = tt
+  cut_stopped (Err stop) put = λ script held done. cut_part script lines state refusal held before done none are after put
+
+-- what is written from the first item on to the end
+module _ (script : List ℕ) (lines next : Lines) (state new : State) (first : HasSaid script [] lines) (begins : state ≡ start) (before middle after : Option (List ℕ)) (refusal : Bool)
+    (answered : (script held : List ℕ) → HasAnswered script lines state false held before → HasAnswered script next new refusal held middle) {E : Type 0} where
+  pub all_written : (r : Result Bool E) → IfOk r (λ more. (script held : List ℕ) → HasAnswered script next new refusal held middle → (now : List ℕ) × (after ≡ Some now) × WritesReplies more script held now)
+      → IfOk r (λ more. (held : List ℕ) → before ≡ Some held → (now : List ℕ) × (after ≡ Some now) × WritesReplies more script held now)
+  all_written (Ok more) put = λ held at. put script held (answered script held (answered_none script lines state held before first begins at))
+  all_written (Err stop) put = tt
+
+  pub all_stopped : (r : Result Bool E) → OnErr r ((script held : List ℕ) → HasAnswered script next new refusal held middle → HasStopped script held after)
+      → OnErr r ((held : List ℕ) → before ≡ Some held → HasStopped script held after)
+  all_stopped (Ok more) put = tt
+  all_stopped (Err stop) put = λ held at. put script held (answered script held (answered_none script lines state held before first begins at))
+
+-- what holds where a call didn't fail, and where another one did
+pub where_fed : {A E : Type 0} {P : Type 0} (r : Result A E) (failed : Bool) → failed ≡ is_err r → failed ≡ false → OnOk r P → P
+where_fed (Ok x) failed is not_failed p = p
+where_fed (Err e) failed is not_failed p = absurd (false≢true (sym not_failed ∙ is))
+
+pub where_failed : {A E : Type 0} {P : Type 0} (r : Result A E) → P → OnErr r P
+where_failed (Ok x) p = tt
+where_failed (Err e) p = p

@@ -1,3 +1,4 @@
 pub mod Input
 pub mod Outcome
+pub mod Serving
 pub mod Words

@@ -1,31 +1,37 @@
 -- What a call leaves written and read, for each status.
-use Rattle.std.specs.Prelude.{ℕ, ◌≡◌, ◌<◌, ◌≤◌, ◌+◌, Bool, true, false, List, [], ◌++◌, length, take, drop, Option, Some}
+use Rattle.std.specs.Prelude.{ℕ, ◌≡◌, ◌<◌, ◌≤◌, ◌+◌, ◌⊎◌, Bool, true, false, List, [], ◌++◌, length, take, drop, Option, Some, None}
 use Rattle.std.specs.List.{list_any}
-use Rattle.ms_command.specs.declared.command.ScriptItem.{ScriptItem}
-use Rattle.ms_machine.specs.declared.reply.Reply.{Reply}
-use Rattle.ms_command.specs.Script.{items_of}
-use Rattle.ms_machine.specs.Machine.{State, Run, start}
-use Rattle.ms_machine.specs.Replies.{replies_text, is_refused}
+use Rattle.ms_call.specs.Items.{Item, Open, HasItems}
+use Rattle.ms_machine.specs.Machine.{State, start}
+use Rattle.ms_machine.specs.Replies.{Reply, replies_text, is_refused}
+use Rattle.ms_machine.specs.Scripts.{Run, Replies}
 use Rattle.mshot.specs.declared.status.Status.{Status}
 use Rattle.mshot.specs.declared.status.Status.TheVariants.{Done, SomeRefused, Usage, ReadFault, WriteFault, LogFault, TooLong, NoMemory}
 use Rattle.mshot.specs.Input.{most_bytes, IsRestOf}
 
--- To what was held the replies of a run of the machine over the whole script were added, and nothing else.
+-- To what was held the replies of the machine to the whole script were added, and nothing else.
 pub record WritesReplies (refused : Bool) (script held now : List ℕ) : Type 0 where
   pub replies : List Reply
-  pub last : State
-  pub run : Run start (items_of script) replies last
+  pub to_script : Replies script replies
   pub written : now ≡ held ++ replies_text replies
   pub refusals : list_any is_refused replies ≡ refused
 
--- The same of a front of the script, and the last bytes of the replies may be missing.
-pub record WritesFront (script held now : List ℕ) : Type 0 where
-  pub front : List ScriptItem
-  pub back : List ScriptItem
-  pub split : items_of script ≡ front ++ back
-  pub replies : List Reply
+-- These are the first items of the script.
+abbrev pub BeginsWith : List ℕ → List Item → Type 0
+BeginsWith script front = (items : List Item) (cut : Open) → HasItems None script items cut → (back : List Item) × (items ≡ front ++ back)
+
+-- The machine may give these replies to the first items of the script.
+pub record RepliesToFront (script : List ℕ) (replies : List Reply) : Type 0 where
+  pub front : List Item
+  pub begins : BeginsWith script front
   pub last : State
   pub run : Run start front replies last
+
+-- To what was held replies of the machine were added, to a front of the script or to the whole of it, and the last
+-- bytes of these replies may be missing.
+pub record WritesFront (script held now : List ℕ) : Type 0 where
+  pub replies : List Reply
+  pub to_front : RepliesToFront script replies ⊎ Replies script replies
   pub count : ℕ
   pub written : now ≡ held ++ take count (replies_text replies)
 
@@ -63,10 +69,6 @@ IsComplete ReadFault = ⊥
 IsComplete WriteFault = ⊥
 IsComplete LogFault = ⊥
 IsComplete TooLong = ⊥
-
--- The first bytes of a text, or none, were added to what was held.
-abbrev pub WritesFrontOf : List ℕ → List ℕ → Option (List ℕ) → Type 0
-WritesFrontOf text held now = (count : ℕ) × (now ≡ Some (held ++ take count text))
 
 -- how a call ends that has read the whole script
 abbrev pub IsAfterReading : Status → Type 0

@@ -1,52 +1,130 @@
-ghost use Rattle.std.specs.Prelude.{◌≡◌, ℕ, ◌≤◌, ◌++◌, List, Some, IfOk, OnOk, OnErr, take};
-ghost use Rattle.ms_machine.specs.Machine.{Takes};
+ghost use Rattle.std.specs.Prelude.{◌≡◌, ℕ, ◌≤◌, ◌++◌, Bool, false, List, [], Some, IfOk, OnOk, OnErr, length};
 ghost use Rattle.ms_machine.specs.Replies.{is_refused, reply_text};
 ghost use Rattle.ms_io.specs.Faults.{Rose};
-ghost use Rattle.mshot.specs.Outcome.{IsAfterReading, Writes, WritesFrontOf};
+ghost use Rattle.ms_session.specs.Kept.{IsNamed, state_of, table_of};
+ghost use Rattle.mshot.specs.Outcome.{IsAfterReading, Writes, WritesReplies};
+ghost use Rattle.mshot.specs.Serving.{Goes, HasAnswered, HasStopped, WritesFrontOf, reply_of};
 
 use crate::status::Status;
 use ms_base::memory::OutOfMemory;
 use ms_io::Sink;
+use ms_lines::{Fed, Lines};
 use ms_machine::reply::{Refusal, Reply};
-use ms_script::{NextItem, ScriptItem, next_item};
-use ms_session::{Session, print};
+use ms_session::Session;
 use std::alloc::Global;
 
-/// Why a reply wasn't written whole.
+/// Why not all replies were written.
 #[derive(Clone, Copy, Debug, PartialEq, Eq)]
-enum PutStop {
+enum Stop {
     Fault,
     OutOfMemory,
 }
 
-/// The reply to an item of a script, and the step that it takes.
-fn reply_to(alloc: Global, session: &mut Session, item: ScriptItem) -> Result<Reply, OutOfMemory>
-    ensures step { IfOk result (λ reply. Takes session.old item reply session.new) }
-    ensures err { OnErr result (session.new ≡ session.old) }
+/// The reply to what the script says next, and the step that it takes. None where it says nothing more.
+fn next_reply(
+    alloc: Global,
+    lines: &mut Lines,
+    session: &mut Session,
+) -> Result<Option<Reply>, OutOfMemory>
+    ensures { IfOk result (λ reply. Goes lines.old session.old reply lines.new session.new) }
 {
-    match item {
-        ScriptItem::Command(command) => session.step(alloc, &command),
-        ScriptItem::BadCommand => Ok(Reply::Refused(Refusal::Command)),
-        ScriptItem::Unfinished => Ok(Reply::Refused(Refusal::Unfinished)),
+    match lines.end(alloc)? {
+        Fed::NotYet => Ok(None),
+        Fed::BadCommand => Ok(Some(Reply::Refused(Refusal::Command))),
+        Fed::Command(command) => match session.step(alloc, command) {
+            Ok(reply) => Ok(Some(reply)),
+            Err(OutOfMemory) => Err(OutOfMemory),
+        },
     }
 }
 
 /// Writes a reply as one piece, and says whether it is a refusal.
-fn put_reply<K: Sink>(alloc: Global, reply: Reply, out: &mut K) -> Result<bool, PutStop>
+fn put_reply<K: Sink>(
+    alloc: Global,
+    session: &mut Session,
+    reply: Reply,
+    out: &mut K,
+) -> Result<bool, Stop>
+    requires { IsNamed (length (table_of session.old)) reply }
     ensures counts { K.faults out.old ≤ K.faults out.new }
-    ensures fault { result ≡ Err PutStop.Fault → Rose (K.faults out.old) (K.faults out.new) }
-    ensures refusal { IfOk result (λ refused. refused ≡ is_refused reply) }
-    ensures whole { OnOk result ((held : List ℕ) → K.held out.old ≡ Some held → K.held out.new ≡ Some (held ++ reply_text reply)) }
-    ensures front { OnErr result ((held : List ℕ) → K.held out.old ≡ Some held → WritesFrontOf (reply_text reply) held (K.held out.new)) }
+    ensures fault { result ≡ Err Stop.Fault → Rose (K.faults out.old) (K.faults out.new) }
+    ensures refusal { IfOk result (λ refused. refused ≡ is_refused (reply_of session.old reply)) }
+    ensures same { OnOk result (session.new ≡ session.old) }
+    ensures whole { OnOk result ((held : List ℕ) → K.held out.old ≡ Some held → K.held out.new ≡ Some (held ++ reply_text (reply_of session.old reply))) }
+    ensures front { OnErr result ((held : List ℕ) → K.held out.old ≡ Some held → WritesFrontOf (reply_text (reply_of session.old reply)) held (K.held out.new)) }
 {
     let mut text = Vec::new(alloc);
-    if print(&reply, &mut text).is_err() {
-        return Err(PutStop::OutOfMemory);
+    if session.print(&reply, &mut text).is_err() {
+        return Err(Stop::OutOfMemory);
     }
     match out.put(text.as_slice()) {
         Ok(()) => Ok(matches!(reply, Reply::Refused(_))),
-        Err(_) => Err(PutStop::Fault),
+        Err(_) => Err(Stop::Fault),
     }
+}
+
+/// Writes the replies to the items of a script, one after another, and says whether one is a refusal.
+fn put_replies<K: Sink>(
+    alloc: Global,
+    lines: &mut Lines,
+    session: &mut Session,
+    out: &mut K,
+) -> Result<bool, Stop>
+    ensures counts { K.faults out.old ≤ K.faults out.new }
+    ensures fault { result ≡ Err Stop.Fault → Rose (K.faults out.old) (K.faults out.new) }
+    ensures all { OnOk result (lines.new.rest ≡ []) }
+    ensures answered { IfOk result (λ refused. (script held : List ℕ) → HasAnswered script lines.old (state_of session.old) false held (K.held out.old) → HasAnswered script lines.new (state_of session.new) refused held (K.held out.new)) }
+    ensures stopped { OnErr result ((script held : List ℕ) → HasAnswered script lines.old (state_of session.old) false held (K.held out.old) → HasStopped script held (K.held out.new)) }
+{
+    let mut refused = false;
+    loop {
+        let reply = match next_reply(alloc, lines, session) {
+            Ok(Some(reply)) => reply,
+            Ok(None) => return Ok(refused),
+            Err(OutOfMemory) => return Err(Stop::OutOfMemory),
+        };
+        match put_reply(alloc, session, reply, out) {
+            Ok(refusal) => refused |= refusal,
+            Err(stop) => return Err(stop),
+        }
+    }
+}
+
+/// Writes the last reply, where the script ends inside a text. It says whether one of all replies is a refusal.
+fn put_end<K: Sink>(
+    alloc: Global,
+    lines: &Lines,
+    session: &mut Session,
+    refused: bool,
+    out: &mut K,
+) -> Result<bool, Stop>
+    requires { lines.now.rest ≡ [] }
+    ensures counts { K.faults out.old ≤ K.faults out.new }
+    ensures fault { result ≡ Err Stop.Fault → Rose (K.faults out.old) (K.faults out.new) }
+    ensures replies { IfOk result (λ some. (script held : List ℕ) → HasAnswered script lines.now (state_of session.old) refused held (K.held out.old) → (now : List ℕ) × (K.held out.new ≡ Some now) × WritesReplies some script held now) }
+    ensures stopped { OnErr result ((script held : List ℕ) → HasAnswered script lines.now (state_of session.old) refused held (K.held out.old) → HasStopped script held (K.held out.new)) }
+{
+    if lines.unfinished() {
+        put_reply(alloc, session, Reply::Refused(Refusal::Unfinished), out)
+    } else {
+        Ok(refused)
+    }
+}
+
+/// Writes all replies to a script, and says whether one is a refusal.
+fn put_all<K: Sink>(alloc: Global, script: &[u8], out: &mut K) -> Result<bool, Stop>
+    ensures counts { K.faults out.old ≤ K.faults out.new }
+    ensures fault { result ≡ Err Stop.Fault → Rose (K.faults out.old) (K.faults out.new) }
+    ensures replies { IfOk result (λ refused. (held : List ℕ) → K.held out.old ≡ Some held → (now : List ℕ) × (K.held out.new ≡ Some now) × WritesReplies refused script.now held now) }
+    ensures stopped { OnErr result ((held : List ℕ) → K.held out.old ≡ Some held → HasStopped script.now held (K.held out.new)) }
+{
+    let mut lines = Lines::new(alloc);
+    if lines.feed(script).is_err() {
+        return Err(Stop::OutOfMemory);
+    }
+    let mut session = Session::new(alloc);
+    let refused = put_replies(alloc, &mut lines, &mut session, out)?;
+    put_end(alloc, &lines, &mut session, refused, out)
 }
 
 /// Writes the replies to a script, one after another.
@@ -56,29 +134,10 @@ pub fn answer<K: Sink>(alloc: Global, script: &[u8], out: &mut K) -> Status
     ensures ends { IsAfterReading result }
     ensures replies { (held : List ℕ) → K.held out.old ≡ Some held → (now : List ℕ) × (K.held out.new ≡ Some now) × Writes result script.now held now }
 {
-    let mut session = Session::new(alloc);
-    let mut refused = false;
-    let mut rest = script;
-    loop {
-        let NextItem { item, used } = match next_item(alloc, rest) {
-            Ok(Some(next)) => next,
-            Ok(None) => break,
-            Err(OutOfMemory) => return Status::NoMemory,
-        };
-        let reply = match reply_to(alloc, &mut session, item) {
-            Ok(reply) => reply,
-            Err(OutOfMemory) => return Status::NoMemory,
-        };
-        match put_reply(alloc, reply, out) {
-            Ok(refusal) => refused |= refusal,
-            Err(PutStop::Fault) => return Status::WriteFault,
-            Err(PutStop::OutOfMemory) => return Status::NoMemory,
-        }
-        (_, rest) = rest.split_at(used);
-    }
-    if refused {
-        Status::SomeRefused
-    } else {
-        Status::Done
+    match put_all(alloc, script, out) {
+        Ok(false) => Status::Done,
+        Ok(true) => Status::SomeRefused,
+        Err(Stop::Fault) => Status::WriteFault,
+        Err(Stop::OutOfMemory) => Status::NoMemory,
     }
 }

@@ -1,6 +1,6 @@
-use Rattle.std.proofs.Common.{◌++◌, [], take, subst, sym, ap, ◌∙◌, take_all, arith}
+use Rattle.std.proofs.Common.{◌++◌, [], take, subst, sym, ap, ◌∙◌, take_all}
 use Rattle.std.specs.List.{flat_map}
-use Rattle.ms_lines.specs.Whole.{HasTold, HasToldAtEnd}
+use Rattle.ms_lines.specs.Whole.{HasTold}
 use Rattle.ms_lines.proofs.WholeScripts.{told_first, told_piece, told_at_end, says_all, pieces_more}
 use Rattle.ms_lines.proofs.pieces.read_pieces.Goals as goal
 

@@ -3,4 +3,4 @@ use Rattle.ms_rules.proofs.answer_test.is_answer.Goals as goal
 
 pub returns-clause-exact : goal.returns-clause-exact
 returns-clause-exact c =
-    answers_of_flags c.args.join.now.rules c.as_slice-2.result.now c.write_flags.new.flags c.args.set.now c.as_slice.result.now c.is_stable.result c.as_slice-2.ensures c.as_slice.ensures c.write_flags.ensures c.is_stable.ensures
+    answers_of_flags c.args.join.now c.write_flags.new.flags c.args.set.now c.as_slice.result.now c.is_stable.result c.as_slice.ensures c.write_flags.ensures c.is_stable.ensures

@@ -6,10 +6,10 @@ use Rattle.ms_rules.proofs.answer_test.is_stable.Goals as goal
 
 pub returns : goal.returns
 returns c =
-    let rules = c.args.rules.now in
+    let join = c.args.join.now in
     let in_set = c.args.in_set.now in
     let derived = c.mark_least_model.new.derived in
     let equal = slice_eq-Decides booleans_Decides in_set derived c.eq.result c.eq.ensures in (
-      λ e. IsAnswerSet-from_least rules in_set derived (c.if-not-allows_each.ensures.0 refl) c.if-not-mark_least_model.ensures (equal.0 e),
-      λ answers. equal.1 (least_from_answer_set rules in_set derived (omega arith) c.if-not-mark_least_model.ensures answers),
+      λ e. IsAnswerSet-from_least join in_set derived (rw c.as_slice.ensures at (c.if-not-allows_each.ensures.0 refl)) c.if-not-mark_least_model.ensures (equal.0 e),
+      λ answers. equal.1 (least_from_answer_set join in_set derived (omega arith) c.if-not-mark_least_model.ensures answers),
     )

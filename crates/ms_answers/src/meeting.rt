@@ -1,0 +1,27 @@
+// Assumptions on atoms.
+ghost use Rattle.std.specs.Prelude.{◌≡◌, ◌↔◌, IsTrue};
+ghost use Rattle.ms_join.specs.AnswerSets.{set_of};
+ghost use Rattle.ms_answers.specs.Meeting.{MeetsEach};
+
+use ms_rules::{AtomId, AtomSet};
+
+/// An atom that is taken for true or false.
+#[derive(Clone, Copy, Debug, PartialEq, Eq)]
+pub struct AtomLit {
+    pub atom: AtomId,
+    pub truth: bool,
+}
+
+fn has(set: &[AtomId], atom: AtomId) -> bool
+    ensures { result ≡ set_of set.now atom }
+{
+    set.iter().any(|member| member.0 == atom.0)
+}
+
+/// Whether the set has or lacks each atom as it is assumed.
+pub(crate) fn meets_each(set: &AtomSet, assume: &[AtomLit]) -> bool
+    ensures { IsTrue result ↔ MeetsEach set.now assume.now }
+{
+    let members = set.as_slice();
+    assume.iter().all(|lit| has(members, lit.atom) == lit.truth)
+}

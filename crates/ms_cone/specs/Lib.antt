@@ -1,0 +1,4 @@
+pub mod Chains
+pub mod Cones
+pub mod Search
+pub mod Uses

@@ -1,0 +1,14 @@
+pub mod Front
+pub mod Numbered
+pub mod Rules
+pub mod SameRules
+pub mod Members
+pub mod NamedTerms
+pub mod Added
+pub mod RuleSets
+pub mod Heads
+pub mod GroundModules
+pub mod Additions
+pub mod CoreHeads
+pub mod Sized
+pub mod PlainRules

@@ -1,0 +1,7 @@
+pub mod Numbering
+pub mod LeftRules
+pub mod NewAtoms
+pub mod Growing
+pub mod Sizes
+pub mod Faults
+pub mod Grounds

@@ -1,9 +1,0 @@
-pub mod Bases
-pub mod Front
-pub mod Members
-pub mod Modules
-pub mod Numbers
-pub mod Ordered
-pub mod Rules
-pub mod SameRules
-pub mod Search

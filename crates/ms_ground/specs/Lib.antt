@@ -1,2 +1,0 @@
-pub mod GroundRules
-pub mod Numbering

@@ -1,0 +1,9 @@
+pub mod Growing
+pub mod Members
+pub mod Adding
+pub mod OneCopy
+pub mod Comparing
+pub mod Copies
+pub mod Modules
+pub mod Different
+pub mod Counting

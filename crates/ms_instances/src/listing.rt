@@ -1,0 +1,78 @@
+// The instances of rules, one after the other.
+ghost use Rattle.std.specs.Prelude.{◌≡◌, ◌+◌, ◌<◌, ◌≤◌, ◌++◌, All, IfOk, IfErr, map, length, option_to_list};
+ghost use Rattle.ms_term.specs.Terms.{trees};
+ghost use Rattle.ms_copies.specs.Limits.{most_copies};
+ghost use Rattle.ms_value.specs.Naming.{Keeps};
+ghost use Rattle.ms_instances.specs.Instances.{said_by};
+ghost use Rattle.ms_instances.specs.Listing.{said_of, said_by_rule, all_said};
+ghost use Rattle.ms_instances.specs.Naming.{IsNamed, Adds, Refuses, AreInstances};
+
+use crate::fault::InstanceFault;
+use crate::instance::{Instance, Instances};
+use crate::making::instance_of;
+use ms_base::seq::Seq;
+use ms_core::rule::CoreRule;
+use ms_term::Terms;
+use ms_value::Walk;
+use std::alloc::Global;
+
+/// How many copies of rules there may be together.
+const MOST_COPIES: usize = 1_000_000;
+
+/// What the copies of the rules say, one after the other, under names of the table. Names of the table stay what
+/// they were. Where there are more copies than there may be, it is `TooMany`.
+pub fn instances(
+    alloc: Global,
+    terms: &mut Terms,
+    rules: &[CoreRule],
+) -> Result<Instances, InstanceFault>
+    ensures ok { IfOk result (AreInstances (trees terms.old) (trees terms.new) rules.now (all_said rules.now)) }
+    ensures err { IfErr result (Refuses (trees terms.old) (trees terms.new) (length (all_said rules.now))) }
+{
+    let mut list = Vec::new(alloc);
+    for rule in rules {
+        add_rule(alloc, terms, rule, &mut list)?;
+    }
+    Ok(Seq::from_vec(list))
+}
+
+/// Adds what the copies of a rule say.
+fn add_rule(
+    alloc: Global,
+    terms: &mut Terms,
+    rule: &CoreRule,
+    list: &mut Vec<Instance>,
+) -> Result<(), InstanceFault>
+    requires named { All (IsNamed (length (trees terms.old))) list.old.items }
+    requires few { length list.old.items ≤ most_copies }
+    ensures ok { IfOk result (λ done. Adds (trees terms.old) list.old.items (trees terms.new) list.new.items (said_by_rule rule.now)) }
+    ensures err { IfErr result (Refuses (trees terms.old) (trees terms.new) (length list.old.items + length (said_by_rule rule.now))) }
+{
+    let mut walk = Walk::new(alloc, rule.conds.ranges.as_slice());
+    while walk.next()? {
+        add_copy(alloc, terms, rule, walk.chosen(), list)?;
+    }
+    Ok(())
+}
+
+/// Adds what a rule says under a choice, if it says something.
+fn add_copy(
+    alloc: Global,
+    terms: &mut Terms,
+    rule: &CoreRule,
+    chosen: &[i64],
+    list: &mut Vec<Instance>,
+) -> Result<(), InstanceFault>
+    requires named { All (IsNamed (length (trees terms.old))) list.old.items }
+    requires few { length list.old.items ≤ most_copies }
+    ensures ok { IfOk result (λ done. Adds (trees terms.old) list.old.items (trees terms.new) list.new.items (option_to_list (said_of rule.now chosen.now))) }
+    ensures err { IfErr result (Refuses (trees terms.old) (trees terms.new) (length list.old.items + length (option_to_list (said_of rule.now chosen.now)))) }
+{
+    if let Some(instance) = instance_of(alloc, terms, rule, chosen)? {
+        if list.len() >= MOST_COPIES {
+            return Err(InstanceFault::TooMany);
+        }
+        list.push(instance)?;
+    }
+    Ok(())
+}

@@ -1,0 +1,24 @@
+-- Which atoms the rules make depend on which.
+-- Source: the positive dependency graph, as in Oikarinen and Janhunen, "Modular equivalence for normal logic programs"
+-- (2006).
+use Rattle.std.specs.Prelude.{ℕ, zero, suc, ◌≡◌, List, Some, Any, Contains}
+use Rattle.ms_join.specs.declared.ground_rule.GroundRule.{GroundRule}
+
+-- a rule with the one atom as its head has the other among its positive atoms
+abbrev pub Depends : List GroundRule → ℕ → ℕ → Type 0
+Depends rules a b = Any (λ rule. (rule.head ≡ Some a) × Contains rule.pos b) rules
+
+-- so many steps from a head to a positive atom
+unfoldable pub Walk : List GroundRule → ℕ → ℕ → ℕ → Type 0
+Walk rules zero a b = a ≡ b
+Walk rules (suc steps) a b = (c : ℕ) × Walk rules steps a c × Depends rules c b
+
+-- Each atom reaches itself.
+pub record Reaches (rules : List GroundRule) (a b : ℕ) : Type 0 where
+  pub steps : ℕ
+  pub walk : Walk rules steps a b
+
+-- The atoms are in one component: each reaches the other.
+pub record AreTogether (rules : List GroundRule) (a b : ℕ) : Type 0 where
+  pub forth : Reaches rules a b
+  pub back : Reaches rules b a

@@ -1,0 +1,11 @@
+pub mod BodyLaws
+pub mod Changes
+pub mod Chosen
+pub mod Counting
+pub mod InputLaws
+pub mod JoinLaws
+pub mod Leasts
+pub mod ConeLoops
+pub mod Orders
+pub mod TooMany
+pub mod Verdicts

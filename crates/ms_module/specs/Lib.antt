@@ -1,0 +1,5 @@
+pub mod Bodies
+pub mod Faults
+pub mod Inputs
+pub mod Joins
+pub mod Names

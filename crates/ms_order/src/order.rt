@@ -1,0 +1,71 @@
+ghost use Rattle.std.specs.Prelude.{◌≡◌, ◌<◌, All, length, map};
+ghost use Rattle.std.specs.Cmp.Lexicographic.{slice_cmp};
+ghost use Rattle.ms_tree.specs.Order.{compare_trees};
+ghost use Rattle.ms_term.specs.Terms.{trees, term_at, number_in, AllDifferent};
+ghost use Rattle.ms_order.specs.TermOrder.{IsInTermOrder};
+
+use ms_base::seq::Seq;
+use ms_term::{TermId, Terms};
+use std::cmp::Ordering;
+
+/// The order of two terms, where a number that names nothing stands for 0.
+pub fn compare(terms: &Terms, a: TermId, b: TermId) -> Ordering
+    ensures { result ≡ compare_trees (term_at (trees terms.now) a) (term_at (trees terms.now) b) }
+{
+    let len = terms.len();
+    if a.0 < len && b.0 < len {
+        return terms.compare(a, b);
+    }
+    match (integer(terms, a), integer(terms, b)) {
+        (Some(m), Some(n)) => m.cmp(&n),
+        (Some(_), None) => Ordering::Less,
+        (None, _) => Ordering::Greater,
+    }
+}
+
+/// The integer, or `None` exactly where the term is none. A number that names nothing stands for 0.
+fn integer(terms: &Terms, t: TermId) -> Option<i64>
+    ensures { result ≡ number_in (term_at (trees terms.now) t) }
+{
+    if t.0 < terms.len() {
+        terms.number_of(t)
+    } else {
+        Some(0)
+    }
+}
+
+/// The order of two lists of terms: the first that differ decide, and else the shorter list comes first.
+pub fn compare_lists(terms: &Terms, one: &[TermId], other: &[TermId]) -> Ordering
+    ensures { result ≡ slice_cmp compare_trees
+        (map (term_at (trees terms.now)) one.now) (map (term_at (trees terms.now)) other.now) }
+{
+    let mut rest = one;
+    let mut other_rest = other;
+    while let [first, after @ ..] = rest {
+        let [other_first, other_after @ ..] = other_rest else {
+            return Ordering::Greater;
+        };
+        match compare(terms, *first, *other_first) {
+            Ordering::Equal => {}
+            differ => return differ,
+        }
+        rest = after;
+        other_rest = other_after;
+    }
+    if other_rest.is_empty() {
+        Ordering::Equal
+    } else {
+        Ordering::Less
+    }
+}
+
+/// The names in the order of their terms, each once.
+pub fn in_term_order(terms: &Terms, mut names: Vec<TermId>) -> Seq<TermId>
+    requires below { All (λ n. n < length (trees terms.now)) names.items }
+    requires different { AllDifferent (trees terms.now) }
+    ensures { IsInTermOrder (trees terms.now) names.items result }
+{
+    names.sort_unstable_by(|a, b| compare(terms, *a, *b));
+    names.dedup();
+    Seq::from_vec(names)
+}

@@ -1,4 +1,0 @@
-pub mod FirstLines
-pub mod Meanings
-pub mod Scripts
-pub mod TextLines

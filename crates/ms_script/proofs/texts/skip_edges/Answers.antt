@@ -1,6 +1,0 @@
-use Rattle.std.proofs.Common.{drop, ap, ◌∙◌}
-use Rattle.std.proofs.lemmas.List.{take_rest}
-use Rattle.ms_script.proofs.texts.skip_edges.Goals as goal
-
-pub returns : goal.returns
-returns c = take_rest c.args.line.now c.edges_len.result ∙ ap (λ n. drop n c.args.line.now) c.edges_len.ensures.value

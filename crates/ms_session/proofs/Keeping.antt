@@ -1,0 +1,39 @@
+-- What stays where a table keeps its names.
+use Rattle.std.proofs.Common.{◌≡◌, ℕ, ◌<◌, ◌≤◌, List, [], ◌∷◌, map, length, get_or, All, refl, sym, ap, subst, ◌∙◌, arith}
+use Rattle.std.proofs.lemmas.List.Elements.{All-head, All-tail, All-weaker}
+use Rattle.ms_tree.specs.Tree.{Tree}
+use Rattle.ms_tree.specs.Size.{tree_size}
+use Rattle.ms_term.specs.Terms.{term_at}
+use Rattle.ms_core.specs.Texts.{Texts}
+use Rattle.ms_join.specs.Modules.{Join}
+use Rattle.ms_copies.specs.Limits.{most_symbols}
+use Rattle.ms_value.specs.Naming.{Keeps}
+use Rattle.ms_machine.specs.Machine.{State}
+use Rattle.ms_session.specs.Kept.{IsSound, state_by}
+
+pub names_kept : (old new : List Tree) (base : List ℕ) → Keeps old new → All (λ t. t < length old) base → map (term_at new) base ≡ map (term_at old) base
+names_kept old new [] k h = refl
+names_kept old new (t ∷ ts) k h =
+    ap (λ u. u ∷ map (term_at new) ts) (k.kept t (All-head (λ t. t < length old) t ts h))
+    ∙ ap (λ us. term_at old t ∷ us) (names_kept old new ts k (All-tail (λ t. t < length old) t ts h))
+
+pub named_kept : (old new : List Tree) (base : List ℕ) → Keeps old new → All (λ t. t < length old) base → All (λ t. t < length new) base
+named_kept old new base k h =
+    let longer : length old ≤ length new = k.longer in
+    All-weaker (λ t. t < length old) (λ t. t < length new) (λ t below. omega arith) base h
+
+pub sound_kept : (old new : List Tree) (base : List ℕ) (join : Join) → Keeps old new → IsSound old base join → IsSound new base join
+sound_kept old new base join k s = record {
+  named = named_kept old new base k s.named;
+  small = λ i d h. subst (λ (u : Tree). tree_size u ≤ most_symbols) (sym (k.kept (get_or base i d) (s.named i d h))) (s.small i d h);
+  counted = s.counted;
+  few = s.few;
+}
+
+state_with : Texts → Join → List Tree → State
+state_with texts join names = record { texts = texts; names = names; join = join }
+
+pub state_kept : (old new : List Tree) (texts : Texts) (base : List ℕ) (join : Join) → Keeps old new → All (λ t. t < length old) base
+    → state_by new texts base join ≡ state_by old texts base join
+unfolding state_with
+state_kept old new texts base join k h = ap (state_with texts join) (names_kept old new base k h)

@@ -1,0 +1,151 @@
+-- Grounding calls and joining their module is a step of the machine.
+use Rattle.std.proofs.Common.{◌≡◌, ℕ, ◌+◌, ◌<◌, ◌≤◌, ◌++◌, List, [], map, take, length, All, refl, sym, ap, subst, ◌∙◌, arith}
+use Rattle.std.proofs.lemmas.List.{length-append, length-map, map-append}
+use Rattle.std.proofs.Math.Seq.{take-append_seam}
+use Rattle.ms_tree.specs.Tree.{Tree}
+use Rattle.ms_term.specs.Terms.{term_at}
+use Rattle.ms_core.specs.declared.rule.CoreRule.{CoreRule}
+use Rattle.ms_core.specs.Texts.{Texts}
+use Rattle.ms_value.specs.Naming.{Keeps}
+use Rattle.ms_call.specs.declared.command.Call.{Call}
+use Rattle.ms_call.specs.declared.command.Command.TheVariants.{Ground}
+use Rattle.ms_join.specs.declared.ground_module.GroundModule.{GroundModule}
+use Rattle.ms_join.specs.Modules.{Join, IsWellFormed}
+use Rattle.ms_ctxground.specs.Grounds.{IsGround, IsLater, IsRefused as TooLargeFor, HasAggregates}
+use Rattle.ms_machine.specs.declared.reply.Reply.{Reply}
+use Rattle.ms_machine.specs.declared.reply.Reply.TheVariants.{Added, Grounded, Assigned, Released, NoEffect, Solved, Refused}
+use Rattle.ms_machine.specs.declared.reply.Refusal.{Refusal}
+use Rattle.ms_machine.specs.declared.reply.Refusal.TheVariants.{Command, Unfinished, Syntax, Const, Later, TooLarge, TooMany, Redefined, CrossLoop, Small}
+use Rattle.ms_machine.specs.Grounding.{core_of_calls, ArePlain, Grounds}
+use Rattle.ms_machine.specs.Machine.{Step}
+use Rattle.ms_machine.specs.Replies.{refused, said_by}
+use Rattle.ms_session.specs.Kept.{IsSound, state_by}
+use Rattle.ms_session.specs.Joining.{IsGrownBase, JoinsAs, RefusesAs}
+use Rattle.ms_session.proofs.Keeping.{names_kept, state_kept, sound_kept}
+use Rattle.ms_session.proofs.Refusing.{few_atoms}
+
+-- the terms of the grown base
+pub names_grown : (rules : List CoreRule) (old new : List Tree) (base grown : List ℕ) (m : GroundModule) → IsGround rules old new base grown m → All (λ t. t < length old) base
+    → map (term_at new) grown ≡ map (term_at old) base ++ map (term_at new) m.names
+names_grown rules old new base grown m g named =
+    ap (map (term_at new)) g.grown
+    ∙ map-append (term_at new) base m.names
+    ∙ ap (λ ts. ts ++ map (term_at new) m.names) (names_kept old new base g.keeps named)
+
+grounds : (rules : List CoreRule) (old new : List Tree) (base grown : List ℕ) (m : GroundModule) → IsGround rules old new base grown m
+    → Grounds (map (term_at old) base) rules (map (term_at new) m.names) m
+grounds rules old new base grown m g = record { plain = g.is.plain; fits = g.fits; is_module = g.is }
+
+-- the base goes back to what it was
+base_back : (rules : List CoreRule) (old new : List Tree) (base grown after : List ℕ) (m : GroundModule) → IsGround rules old new base grown m
+    → after ≡ take (length base) grown → after ≡ base
+base_back rules old new base grown after m g is =
+    is ∙ ap (take (length base)) g.grown ∙ take-append_seam base m.names
+
+-- nothing changed but the table
+pub same_state : (old new : List Tree) (texts : Texts) (base after : List ℕ) (join next : Join) → Keeps old new → All (λ t. t < length old) base
+    → after ≡ base → next ≡ join → state_by new texts after next ≡ state_by old texts base join
+same_state old new texts base after join next k named same_base same_join =
+    ap (λ b. state_by new texts b next) same_base
+    ∙ ap (λ j. state_by new texts base j) same_join
+    ∙ state_kept old new texts base join k named
+
+refused_as : (texts : Texts) (calls : List Call) (old new : List Tree) (base grown after : List ℕ) (join next : Join) (m : GroundModule) (refusal : Refusal)
+    → All (λ t. t < length old) base → IsGround (core_of_calls texts calls) old new base grown m
+    → RefusesAs (map (term_at old) base ++ map (term_at new) m.names) join m refusal
+    → state_by new texts after next ≡ state_by old texts base join
+    → Step (state_by old texts base join) (Ground calls) (refused refusal) (state_by new texts after next)
+refused_as texts calls old new base grown after join next m TooMany named g why same =
+    (record { names = map (term_at new) m.names; ground_module = m; grounds = grounds (core_of_calls texts calls) old new base grown m g; why = why }, same)
+refused_as texts calls old new base grown after join next m (Redefined atom) named g why same =
+    (record { names = map (term_at new) m.names; ground_module = m; grounds = grounds (core_of_calls texts calls) old new base grown m g; why = why }, same)
+refused_as texts calls old new base grown after join next m (CrossLoop new_head other) named g why same =
+    (record { names = map (term_at new) m.names; ground_module = m; grounds = grounds (core_of_calls texts calls) old new base grown m g; why = why }, same)
+refused_as texts calls old new base grown after join next m Command named g why same = elim why [ ]
+refused_as texts calls old new base grown after join next m Unfinished named g why same = elim why [ ]
+refused_as texts calls old new base grown after join next m (Syntax at) named g why same = elim why [ ]
+refused_as texts calls old new base grown after join next m (Const at) named g why same = elim why [ ]
+refused_as texts calls old new base grown after join next m Later named g why same = elim why [ ]
+refused_as texts calls old new base grown after join next m TooLarge named g why same = elim why [ ]
+refused_as texts calls old new base grown after join next m Small named g why same = elim why [ ]
+
+pub module_steps : (texts : Texts) (calls : List Call) (old new : List Tree) (base grown after : List ℕ) (join next : Join) (m : GroundModule) (mark : ℕ) (reply : Reply)
+    → IsSound old base join → mark ≡ length base → IsGround (core_of_calls texts calls) old new base grown m
+    → JoinsAs new mark m grown join after next reply
+    → Step (state_by old texts base join) (Ground calls) (said_by new reply) (state_by new texts after next)
+module_steps texts calls old new base grown after join next m mark (Grounded atoms rules) s at g h = record {
+  names = map (term_at new) m.names;
+  ground_module = m;
+  grounds = grounds (core_of_calls texts calls) old new base grown m g;
+  composable = h.0;
+  atoms_are = h.1 ∙ sym (length-map m.names (term_at new));
+  rules_are = h.2;
+  texts = refl;
+  longer = ap (map (term_at new)) h.3 ∙ names_grown (core_of_calls texts calls) old new base grown m g s.named;
+  joined = h.4;
+}
+module_steps texts calls old new base grown after join next m mark (Refused refusal) s at g h =
+    refused_as texts calls old new base grown after join next m refusal s.named g
+    (subst (λ (names : List Tree). RefusesAs names join m refusal) (names_grown (core_of_calls texts calls) old new base grown m g s.named) h.0)
+    (same_state old new texts base after join next g.keeps s.named
+    (base_back (core_of_calls texts calls) old new base grown after m g (h.1 ∙ ap (λ k. take k grown) at)) h.2)
+module_steps texts calls old new base grown after join next m mark (Added count) s at g h = elim h [ ]
+module_steps texts calls old new base grown after join next m mark Assigned s at g h = elim h [ ]
+module_steps texts calls old new base grown after join next m mark Released s at g h = elim h [ ]
+module_steps texts calls old new base grown after join next m mark NoEffect s at g h = elim h [ ]
+module_steps texts calls old new base grown after join next m mark (Solved ending count limit shown) s at g h = elim h [ ]
+
+pub module_sound : (rules : List CoreRule) (old new : List Tree) (base grown after : List ℕ) (join next : Join) (m : GroundModule) (mark : ℕ) (reply : Reply)
+    → IsSound old base join → mark ≡ length base → IsGround rules old new base grown m
+    → JoinsAs new mark m grown join after next reply
+    → IsSound new after next
+module_sound rules old new base grown after join next m mark (Grounded atoms count) s at g h =
+    let same : after ≡ grown = h.3 in
+    let atoms_are : next.atoms ≡ join.atoms + m.fresh = h.4.atoms in
+    let few : join.atoms + m.fresh ≤ 4000000 = few_atoms join m h.0 in
+    let counted : length base ≡ join.atoms = s.counted in
+    let fresh : m.fresh ≡ length m.names = g.well_formed.fresh in
+    let long : length grown ≡ length base + length m.names = ap length g.grown ∙ length-append base m.names in
+    subst (λ (b : List ℕ). IsSound new b next) (sym same) (record {
+      named = g.base.named;
+      small = g.base.small;
+      counted = omega arith;
+      few = omega arith;
+    })
+module_sound rules old new base grown after join next m mark (Refused refusal) s at g h =
+    let same : after ≡ base = base_back rules old new base grown after m g (h.1 ∙ ap (λ k. take k grown) at) in
+    subst (λ (b : List ℕ). IsSound new b next) (sym same)
+    (subst (λ (j : Join). IsSound new base j) (sym h.2) (sound_kept old new base join g.keeps s))
+module_sound rules old new base grown after join next m mark (Added count) s at g h = elim h [ ]
+module_sound rules old new base grown after join next m mark Assigned s at g h = elim h [ ]
+module_sound rules old new base grown after join next m mark Released s at g h = elim h [ ]
+module_sound rules old new base grown after join next m mark NoEffect s at g h = elim h [ ]
+module_sound rules old new base grown after join next m mark (Solved ending count limit shown) s at g h = elim h [ ]
+
+-- an aggregate is where not all rules are plain
+pub not_plain : (rules : List CoreRule) → HasAggregates rules → ¬ ArePlain rules
+not_plain rules h plain = h.4 (subst (λ (rule : CoreRule). rule.aggs ≡ []) h.3 (plain h.0 h.1 h.2))
+
+-- the base that grounding left is that of the join and the module's atoms
+pub grown_base : (rules : List CoreRule) (old new : List Tree) (base grown : List ℕ) (join : Join) (m : GroundModule) (mark : ℕ)
+    → IsSound old base join → mark ≡ length base → IsGround rules old new base grown m → IsGrownBase new mark grown join m
+grown_base rules old new base grown join m mark s at g =
+    let counted : length base ≡ join.atoms = s.counted in
+    let fresh : m.fresh ≡ length m.names = g.well_formed.fresh in
+    let long : length grown ≡ length base + length m.names = ap length g.grown ∙ length-append base m.names in
+    record {
+      mark_is = at ∙ counted;
+      well_formed = subst (λ (n : ℕ). IsWellFormed n m) counted g.well_formed;
+      named = g.base.named;
+      counted = omega arith;
+    }
+
+pub later_step : (texts : Texts) (calls : List Call) (old new : List Tree) (base after : List ℕ) (join : Join) → All (λ t. t < length old) base
+    → IsLater (core_of_calls texts calls) old new base after → Step (state_by old texts base join) (Ground calls) (refused Later) (state_by new texts after join)
+later_step texts calls old new base after join named l =
+    (not_plain (core_of_calls texts calls) l.aggregates, same_state old new texts base after join join l.keeps named l.same refl)
+
+pub large_step : (texts : Texts) (calls : List Call) (old new : List Tree) (base after : List ℕ) (join : Join) → All (λ t. t < length old) base
+    → TooLargeFor (core_of_calls texts calls) old new base after → Step (state_by old texts base join) (Ground calls) (refused TooLarge) (state_by new texts after join)
+large_step texts calls old new base after join named r =
+    (r.plain, r.large, same_state old new texts base after join join r.keeps named r.same refl)

@@ -1,0 +1,11 @@
+use Rattle.std.proofs.Common.{map, take}
+use Rattle.ms_term.specs.Terms.{trees, term_at}
+use Rattle.ms_value.specs.Naming.{Keeps}
+use Rattle.ms_session.specs.Assuming.{MeetSame}
+use Rattle.ms_session.proofs.solving.numbered.Given as goal
+
+abbrev pub invariant-loop-literal : goal.invariant-loop-literal
+invariant-loop-literal l = record {
+  keeps : Keeps (trees l.fn.terms) (trees l.terms);
+  same : MeetSame (map (term_at (trees l.fn.terms)) l.base) (take l.literal-index l.assume) l.lits.items;
+}

@@ -1,0 +1,96 @@
+-- What a session keeps, and what its calls do.
+use Rattle.std.specs.Prelude.{ℕ, ◌≡◌, ◌<◌, ◌≤◌, Bool, true, false, List, Option, Some, All, Contains, MatchOption, length, map, slice_get, ⊤}
+use Rattle.ms_tree.specs.Tree.{Tree}
+use Rattle.ms_tree.specs.Size.{tree_size}
+use Rattle.ms_term.specs.declared.node.Node.{Node}
+use Rattle.ms_term.specs.Terms.{trees, term_at}
+use Rattle.ms_grammar.specs.declared.value.Value.{Value}
+use Rattle.ms_core.specs.Texts.{Texts, with_given}
+use Rattle.ms_call.specs.declared.command.Command.{Command}
+use Rattle.ms_join.specs.declared.truth.Truth.{Truth}
+use Rattle.ms_join.specs.declared.truth.Effect.{Effect}
+use Rattle.ms_join.specs.declared.truth.Effect.TheVariants.{Done, NoEffect}
+use Rattle.ms_join.specs.Modules.{Join, IsInput, IsAssigned, IsReleased, value_of}
+use Rattle.ms_copies.specs.Limits.{most_symbols}
+use Rattle.ms_machine.specs.declared.reply.Reply.{Reply as kept_reply}
+use Rattle.ms_machine.specs.declared.reply.Reply.TheVariants.{Solved}
+use Rattle.ms_machine.specs.Machine.{State, Step}
+use Rattle.ms_machine.specs.Replies.{said_by}
+
+-- A session has met want of memory or hasn't. It keeps a table of terms, the accepted texts, the names of the atoms
+-- of the base by their numbers, and the join.
+pub record Kept : Type 0 where
+  pub sealed : Bool
+  pub nodes : List Node
+  pub texts : Texts
+  pub base : List ℕ
+  pub join : Join
+
+-- the terms by their names
+abbrev pub table_of : Kept → List Tree
+table_of k = trees k.nodes
+
+-- the state of the machine, where these are the terms by their names
+abbrev pub state_by : List Tree → Texts → List ℕ → Join → State
+state_by table texts base join = record { texts = texts; names = map (term_at table) base; join = join }
+
+-- the state of the machine that the session stands for
+abbrev pub state_of : Kept → State
+state_of k = state_by (table_of k) k.texts k.base k.join
+
+-- What a session keeps true until it is sealed: each atom of the base has a name of the table and is no larger than
+-- an atom may be, and the join has the atoms of the base.
+pub record IsSound (table : List Tree) (base : List ℕ) (join : Join) : Type 0 where
+  pub named : All (λ t. t < length table) base
+  pub small : All (λ t. tree_size (term_at table t) ≤ most_symbols) base
+  pub counted : length base ≡ join.atoms
+  pub few : join.atoms ≤ 4000000
+
+-- each name in the reply is one of a table of so many terms
+abbrev pub IsNamed : ℕ → kept_reply → Type 0
+IsNamed size (Solved ending count limit shown) = All (All (λ t. t < size)) shown
+IsNamed size reply = ⊤
+
+-- The command was done: the session wasn't sealed and isn't, and the machine may take this step.
+pub record IsDone (old : Kept) (command : Command) (new : Kept) (reply : kept_reply) : Type 0 where
+  pub was_open : old.sealed ≡ false
+  pub is_open : new.sealed ≡ false
+  pub step : Step (state_of old) command (said_by (table_of new) reply) (state_of new)
+  pub named : IsNamed (length (table_of new)) reply
+
+-- There was no memory for the call, or the session was sealed before, and then nothing changed.
+pub record IsSealed (old new : Kept) : Type 0 where
+  pub sealed : new.sealed ≡ true
+  pub same : old.sealed ≡ true → new ≡ old
+
+-- The constant was given a value from outside, and nothing else changed.
+pub record IsGiven (old : Kept) (name : List ℕ) (value : Value) (new : Kept) : Type 0 where
+  pub was_open : old.sealed ≡ false
+  pub given : new ≡ record old { texts = with_given old.texts name value }
+
+-- the atom with this term has this number, and no other has
+pub record IsAtomOf (names : List Tree) (t : Tree) (a : ℕ) : Type 0 where
+  pub there : slice_get names a ≡ Some t
+  pub only : (b : ℕ) → slice_get names b ≡ Some t → b ≡ a
+
+-- the number of the atom with this term, or none exactly where there is no such atom
+abbrev pub IsNumberOf : List Tree → Tree → Option ℕ → Type 0
+IsNumberOf names t number = MatchOption number (¬ Contains names t) (IsAtomOf names t)
+
+-- The base has the atom with this term under this number, or none. The table may have grown, and nothing else changes.
+pub record IsFound (old : Kept) (t : Tree) (new : Kept) (number : Option ℕ) : Type 0 where
+  pub was_open : old.sealed ≡ false
+  pub is_open : new.sealed ≡ false
+  pub state : state_of new ≡ state_of old
+  pub found : IsNumberOf (state_of old).names t number
+
+-- The input has this truth from now on, and nothing else changes. Nothing at all does where the atom is no input.
+abbrev pub Assigns : Kept → ℕ → Truth → Kept → Effect → Type 0
+Assigns old a truth new Done = IsInput old.join a × IsAssigned old.join a (value_of truth) new.join × (new ≡ record old { join = new.join })
+Assigns old a truth new NoEffect = (¬ IsInput old.join a) × (new ≡ old)
+
+-- The input is an output without a rule from now on, and nothing else changes. Nothing at all does where the atom is
+-- no input.
+abbrev pub Releases : Kept → ℕ → Kept → Effect → Type 0
+Releases old a new Done = IsInput old.join a × IsReleased old.join a new.join × (new ≡ record old { join = new.join })
+Releases old a new NoEffect = (¬ IsInput old.join a) × (new ≡ old)
