@@ -1,0 +1,63 @@
+-- A core rule that is a constraint has no head.
+use Rattle.std.proofs.Common.{◌≡◌, List, [], ◌∷◌, Bool, true, false, Option, Some, None, refl, map}
+use Rattle.std.proofs.lemmas.List.Elements.{All-nil, All-cons, All-append, All-map}
+use Rattle.std.specs.List.{All, flat_map}
+use Rattle.ms_grammar.specs.declared.statement.TextGuard.{TextGuard}
+use Rattle.ms_grammar.specs.declared.statement.TextSet.{TextSet}
+use Rattle.ms_grammar.specs.declared.statement.SetElement.{SetElement}
+use Rattle.ms_grammar.specs.declared.statement.Head.TheVariants.{Empty, Atom as HeadAtom, Set as HeadSet}
+use Rattle.ms_grammar.specs.declared.statement.BodyLit.{BodyLit}
+use Rattle.ms_grammar.specs.declared.statement.Form.{Form}
+use Rattle.ms_grammar.specs.declared.statement.Form.TheVariants.{Rule, Program, External, Const, Show, ShowNone, IncludeIncmode}
+use Rattle.ms_grammar.specs.declared.value.Value.{Value}
+use Rattle.ms_core.specs.declared.rule.RuleKind.{RuleKind}
+use Rattle.ms_core.specs.declared.rule.RuleKind.TheVariants.{Constraint}
+use Rattle.ms_core.specs.declared.rule.CoreRule.{CoreRule}
+use Rattle.ms_core.specs.CoreRules.{bound, core_choice, core_rules}
+use Rattle.ms_core.specs.Pools.{form_copies}
+use Rattle.ms_core.specs.Replacing.{Meaning, replaced_form}
+use Rattle.ms_core.specs.Texts.{Texts, PartName, core_of_call, core_of_form, core_where, meaning_of}
+use Rattle.ms_call.specs.declared.command.Call.{Call}
+use Rattle.ms_machine.specs.Grounding.{core_of_calls}
+
+abbrev pub HasHeadByKind : CoreRule → Type 0
+HasHeadByKind r = r.kind ≡ Constraint → r.head ≡ None
+
+All-flat_map : {X Y : Type 0} (P : Y → Type 0) (f : X → List Y) → ((x : X) → All P (f x)) → (xs : List X) → All P (flat_map f xs)
+All-flat_map P f all [] = All-nil P
+All-flat_map P f all (x ∷ xs) = All-append P (f x) (flat_map f xs) (all x) (All-flat_map P f all xs)
+
+one : (r : CoreRule) → HasHeadByKind r → All HasHeadByKind (r ∷ [])
+one r h = All-cons HasHeadByKind r [] h (All-nil HasHeadByKind)
+
+bound_headed : (left right : Option TextGuard) (s : TextSet) (parts : List BodyLit) → All HasHeadByKind (bound (record s { left = left; right = right }) parts)
+bound_headed (Some l) right s parts = one _ (λ is. refl)
+bound_headed None (Some r) s parts = one _ (λ is. refl)
+bound_headed None None s parts = All-nil HasHeadByKind
+
+choices_headed : (parts : List BodyLit) (es : List SetElement) → All HasHeadByKind (map (core_choice parts) es)
+choices_headed parts es = All-map HasHeadByKind (core_choice parts) es (λ k d within is. cc)
+
+form_headed : (form : Form) → All HasHeadByKind (core_rules form)
+form_headed (Rule Empty parts) = one _ (λ is. refl)
+form_headed (Rule (HeadAtom a) parts) = one _ (λ is. cc)
+form_headed (Rule (HeadSet s) parts) = All-append HasHeadByKind (map (core_choice parts) s.elements) (bound s parts) (choices_headed parts s.elements) (bound_headed s.left s.right s parts)
+form_headed (External a) = one _ (λ is. cc)
+form_headed (Program name params) = All-nil HasHeadByKind
+form_headed (Const name value) = All-nil HasHeadByKind
+form_headed (Show name arity) = All-nil HasHeadByKind
+form_headed ShowNone = All-nil HasHeadByKind
+form_headed IncludeIncmode = All-nil HasHeadByKind
+
+copies_headed : (means : Meaning) (form : Form) → All HasHeadByKind (core_of_form means form)
+copies_headed means form = All-flat_map HasHeadByKind core_rules form_headed (form_copies (replaced_form means form))
+
+where_headed : (b : Bool) (t : Texts) (args : List Value) (s : PartName × Form) → All HasHeadByKind (core_where b t args s)
+where_headed true t args s = copies_headed (meaning_of t s.0.params args) s.1
+where_headed false t args s = All-nil HasHeadByKind
+
+pub calls_headed : (t : Texts) (calls : List Call) → All HasHeadByKind (core_of_calls t calls)
+calls_headed t calls =
+    All-flat_map HasHeadByKind (λ call. core_of_call t call.name call.args)
+    (λ call. All-flat_map HasHeadByKind _ (λ s. where_headed _ t call.args s) t.said)
+    calls
