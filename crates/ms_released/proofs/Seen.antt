@@ -12,6 +12,7 @@ use Rattle.ms_call.specs.declared.command.Assumption.{Assumption}
 use Rattle.ms_call.specs.declared.command.Call.{Call}
 use Rattle.ms_call.specs.declared.command.Command.TheVariants.{Ground, Release, Solve}
 use Rattle.ms_join.specs.AnswerSets.{set_of}
+use Rattle.ms_join.specs.Modules.{IsInput}
 use Rattle.ms_copies.specs.Grounding.{IsHead}
 use Rattle.ms_machine.specs.Grounding.{core_of_calls}
 use Rattle.ms_machine.specs.Listing.{HasAtom, IsAnswer, IsShownList, tree_of_value}

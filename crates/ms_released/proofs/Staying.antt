@@ -1,5 +1,5 @@
 -- What is false for good stays so.
-use Rattle.std.proofs.Common.{◌≡◌, ◌≢◌, ◌⊎◌, ℕ, ◌+◌, ◌<◌, ◌≤◌, List, [], ◌∷◌, ◌++◌, Option, Some, None, get_or, inl, inr, refl, sym, subst, ap, arith}
+use Rattle.std.proofs.Common.{◌≡◌, ◌≢◌, ◌⊎◌, ℕ, ◌+◌, ◌<◌, ◌≤◌, true, List, [], ◌∷◌, ◌++◌, Option, Some, None, get_or, inl, inr, refl, sym, subst, ap, arith}
 use Rattle.std.specs.List.{All, Contains, slice_get}
 use Rattle.std.specs.Prelude.{IsSomeAnd}
 use Rattle.std.proofs.lemmas.List.Elements.{All-append, All-contains}
@@ -79,7 +79,7 @@ output_from_head old new m joined a within head = record {
 
 -- ---- heads
 
-some_and : (P : Tree → Type 0) (o : Option Tree) (t : Tree) → o ≡ Some t → P t → IsSomeAnd o P
+pub some_and : (P : Tree → Type 0) (o : Option Tree) (t : Tree) → o ≡ Some t → P t → IsSomeAnd o P
 some_and P None t is holds = cc
 some_and P (Some u) t is holds = let same : u ≡ t = cc in subst P (sym same) holds
 
