@@ -10,7 +10,6 @@ use Rattle.ms_grammar.specs.declared.statement.BodyLit.{BodyLit}
 use Rattle.ms_grammar.specs.declared.statement.Form.{Form}
 use Rattle.ms_grammar.specs.declared.statement.Form.TheVariants.{Rule, Program, External, Const, Show, ShowNone, IncludeIncmode}
 use Rattle.ms_grammar.specs.declared.value.Value.{Value}
-use Rattle.ms_core.specs.declared.rule.RuleKind.{RuleKind}
 use Rattle.ms_core.specs.declared.rule.RuleKind.TheVariants.{Constraint}
 use Rattle.ms_core.specs.declared.rule.CoreRule.{CoreRule}
 use Rattle.ms_core.specs.CoreRules.{bound, core_choice, core_rules}

@@ -1,8 +1,8 @@
 -- What holds of each state that a run from the start reaches.
-use Rattle.std.proofs.Common.{◌≡◌, ◌∙◌, ◌⊎◌, ℕ, ◌+◌, ◌<◌, zero, suc, List, [], ◌∷◌, ◌++◌, Some, None, length, length-append, inl, inr, refl, sym, subst, ap, arith}
-use Rattle.std.specs.List.{All, Contains, slice_get}
+use Rattle.std.proofs.Common.{◌≡◌, ◌∙◌, ◌⊎◌, ℕ, ◌<◌, zero, suc, List, [], ◌∷◌, ◌++◌, Some, length, length-append, inl, inr, refl, sym, subst, ap, arith}
+use Rattle.std.specs.List.{All, slice_get}
 use Rattle.std.specs.Prelude.{IsSomeAnd}
-use Rattle.std.proofs.lemmas.List.Elements.{All-append, All-weaker, Contains-get_or}
+use Rattle.std.proofs.lemmas.List.Elements.{All-append}
 use Rattle.std.proofs.lemmas.Option.{slice_get_within}
 use Rattle.ms_tree.specs.Tree.{Tree}
 use Rattle.ms_grammar.specs.declared.value.Value.{Value}
@@ -11,11 +11,11 @@ use Rattle.ms_call.specs.declared.command.Command.{Command}
 use Rattle.ms_call.specs.declared.command.Command.TheVariants.{Release}
 use Rattle.ms_join.specs.declared.ground_module.GroundModule.{GroundModule}
 use Rattle.ms_join.specs.declared.ground_rule.GroundRule.{GroundRule}
-use Rattle.ms_join.specs.Modules.{Join, IsInput, IsOutput, IsReleased}
+use Rattle.ms_join.specs.Modules.{IsInput, IsOutput, IsReleased}
 use Rattle.ms_copies.specs.Grounding.{IsHead}
 use Rattle.ms_machine.specs.Grounding.{core_of_calls}
 use Rattle.ms_machine.specs.Listing.{tree_of_value}
-use Rattle.ms_machine.specs.Machine.{State, start, IsInputNamed, Joins, Step}
+use Rattle.ms_machine.specs.Machine.{State, start, IsInputNamed, Step}
 use Rattle.ms_machine.specs.Replies.{Reply, released}
 use Rattle.ms_machine.specs.Scripts.{Run}
 use Rattle.ms_released.specs.Released.{IsFalseForGood, IsReached, IsTheOne}
@@ -54,7 +54,7 @@ orderly_grown old new grows is =
     let m : GroundModule = grows.joins.ground_module in
     let module_is = grows.joins.grounds.is_module in
     let counted : length (old.names ++ grows.joins.names) ≡ new.join.atoms =
-        omega (arith, length-append old.names grows.joins.names, is.counted, module_is.fresh, grows.joins.joined.atoms) in
+    omega (arith, length-append old.names grows.joins.names, is.counted, module_is.fresh, grows.joins.joined.atoms) in
     record {
       counted = ap length grows.joins.longer ∙ counted;
       each_once = subst HasEachOnce (sym grows.joins.longer)

@@ -1,7 +1,7 @@
 -- What a script sees of an atom that was released.
-use Rattle.std.proofs.Common.{◌≡◌, ◌∙◌, ◌⊎◌, ℕ, ◌<◌, Bool, true, false, eqb, List, [], ◌∷◌, ◌++◌, Option, Some, None, get_or, zero, suc, inl, inr, refl, sym, subst, ap, arith}
-use Rattle.std.specs.List.{All, AllZip, Contains, list_any, slice_get}
-use Rattle.std.specs.Prelude.{IsSomeAnd, IsTrue}
+use Rattle.std.proofs.Common.{◌≡◌, ◌∙◌, ℕ, Bool, eqb, List, [], ◌∷◌, ◌++◌, Some, get_or, zero, suc, sym, subst, arith}
+use Rattle.std.specs.List.{All, AllZip, Contains, slice_get}
+use Rattle.std.specs.Prelude.{IsTrue}
 use Rattle.std.proofs.lemmas.Bool.{eq-eqb, false≢true, or_left, or_right}
 use Rattle.std.proofs.lemmas.List.Elements.{All-cons, All-head, All-nil, All-tail}
 use Rattle.std.proofs.lemmas.List.Sorted.{All-permutation}
@@ -19,7 +19,7 @@ use Rattle.ms_machine.specs.Listing.{HasAtom, IsAnswer, IsShownList, tree_of_val
 use Rattle.ms_machine.specs.Machine.{State, IsInputNamed, Step, shows_atom}
 use Rattle.ms_machine.specs.Replies.{grounded, released, solved}
 use Rattle.ms_released.specs.Released.{IsFalseForGood, IsTheOne, WasReleased}
-use Rattle.ms_released.proofs.Names.{HasEachOnce, at_front}
+use Rattle.ms_released.proofs.Names.{at_front}
 use Rattle.ms_released.proofs.Reaching.{orderly_reached, orderly_run, orderly_step, release_is_for_good}
 use Rattle.ms_released.proofs.Sets.{in_no_answer_set}
 use Rattle.ms_released.proofs.Staying.{no_new_head, some_and, stays_false}

@@ -1,5 +1,5 @@
 -- What is false for good stays so.
-use Rattle.std.proofs.Common.{◌≡◌, ◌≢◌, ◌⊎◌, ℕ, ◌+◌, ◌<◌, ◌≤◌, true, List, [], ◌∷◌, ◌++◌, Option, Some, None, get_or, inl, inr, refl, sym, subst, ap, arith}
+use Rattle.std.proofs.Common.{◌≡◌, ◌≢◌, ◌⊎◌, ℕ, ◌+◌, ◌<◌, ◌≤◌, true, List, [], ◌∷◌, ◌++◌, Option, Some, None, get_or, inl, inr, refl, sym, subst, arith}
 use Rattle.std.specs.List.{All, Contains, slice_get}
 use Rattle.std.specs.Prelude.{IsSomeAnd}
 use Rattle.std.proofs.lemmas.List.Elements.{All-append, All-contains}
@@ -15,10 +15,9 @@ use Rattle.ms_join.specs.declared.ground_rule.GroundRule.{GroundRule}
 use Rattle.ms_join.specs.declared.ground_rule.Input.{Input}
 use Rattle.ms_join.specs.Composability.{IsComposable}
 use Rattle.ms_join.specs.Modules.{Join, IsInput, IsJoined, IsOutput}
-use Rattle.ms_copies.specs.Choosing.{IsCopy}
 use Rattle.ms_copies.specs.Evaluating.{Chosen}
 use Rattle.ms_copies.specs.Grounding.{gives_head, head_under, IsHead}
-use Rattle.ms_copies.specs.Simplifying.{ground_kind, IsLeft, IsModule, IsNumbered}
+use Rattle.ms_copies.specs.Simplifying.{ground_kind, IsModule, IsNumbered}
 use Rattle.ms_machine.specs.Grounding.{core_of_calls}
 use Rattle.ms_machine.specs.Machine.{State, Joins}
 use Rattle.ms_machine.specs.Replies.{Reply}

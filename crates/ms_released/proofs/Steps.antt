@@ -1,16 +1,13 @@
 -- What a step does to a state: the join stays but for its inputs, or it is joined with a module.
-use Rattle.std.proofs.Common.{◌≡◌, ◌⊎◌, ℕ, List, ◌++◌, inl, inr, refl, sym, subst, ap}
+use Rattle.std.proofs.Common.{◌≡◌, ◌⊎◌, ℕ, List, inl, inr, sym, subst, ap}
 use Rattle.std.specs.List.{Contains}
-use Rattle.ms_tree.specs.Tree.{Tree}
-use Rattle.ms_grammar.specs.declared.value.Value.{Value}
-use Rattle.ms_core.specs.Texts.{Texts}
 use Rattle.ms_call.specs.Items.{Item, command, bad_line}
 use Rattle.ms_call.specs.declared.command.Call.{Call}
 use Rattle.ms_call.specs.declared.command.Command.{Command}
 use Rattle.ms_call.specs.declared.command.Command.TheVariants.{Add, Ground, Assign, Release, Solve}
 use Rattle.ms_join.specs.declared.ground_rule.Input.{Input}
 use Rattle.ms_join.specs.Modules.{Join, IsInput}
-use Rattle.ms_machine.specs.declared.reply.Refusal.TheVariants.{Command as no_command, Unfinished, Syntax, Const, Later, TooLarge, TooMany, Redefined, CrossLoop, Small}
+use Rattle.ms_machine.specs.declared.reply.Refusal.TheVariants.{Syntax, Const, Later, TooLarge, TooMany, Redefined, CrossLoop, Small}
 use Rattle.ms_machine.specs.Machine.{State, Joins, Step}
 use Rattle.ms_machine.specs.Replies.{Reply, added, grounded, assigned, released, no_effect, solved, refused}
 use Rattle.ms_machine.specs.Scripts.{Takes}
