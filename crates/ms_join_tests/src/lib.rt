@@ -1,0 +1,11 @@
+// Tests of the crates that look at joins and find their answer sets, through their public calls.
+#![tactic(auto)]
+
+#[cfg(test)]
+mod answers;
+#[cfg(test)]
+mod cone;
+#[cfg(test)]
+mod graph;
+#[cfg(test)]
+mod rules;

@@ -1,0 +1,9 @@
+// Tests of the crates that a search will stand on, through their public calls.
+#![tactic(auto)]
+
+#[cfg(test)]
+mod analyze;
+#[cfg(test)]
+mod lits;
+#[cfg(test)]
+mod nogood;
