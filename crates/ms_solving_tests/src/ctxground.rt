@@ -20,7 +20,7 @@ fn fact(alloc: Global) -> Result<Statement, OutOfMemory> {
     Ok(Statement { line: 1, form })
 }
 
-fn call_of_base(alloc: Global) -> Result<Calls, OutOfMemory> {
+pub(crate) fn call_of_base(alloc: Global) -> Result<Calls, OutOfMemory> {
     let name = Seq::copied(alloc, b"base")?;
     let args = Items::new(alloc);
     let mut calls = Seq::new(alloc);

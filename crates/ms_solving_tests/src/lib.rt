@@ -16,6 +16,8 @@ mod graph;
 #[cfg(test)]
 mod instances;
 #[cfg(test)]
+mod join;
+#[cfg(test)]
 mod lits;
 #[cfg(test)]
 mod nogood;
