@@ -1,4 +1,4 @@
-use Rattle.std.proofs.Common.{rules, ◌≡◌, ◌∙◌, ◌≤◌, ◌<◌, ◌+◌, ◌^◌, Some, Ok, Err, take, drop, vec_len, length, length-take, ap, arith}
+use Rattle.std.proofs.Common.{rules, ◌≡◌, ◌∙◌, ◌≤◌, ◌<◌, ◌+◌, ◌^◌, Some, drop, vec_len, length, length-take, ap, arith}
 use Rattle.mshot.specs.Input.{most_bytes}
 use Rattle.mshot.proofs.Reading.{read_more, read_end, read_stop}
 use Rattle.mshot.proofs.input.read_all.Goals as goal
