@@ -268,7 +268,8 @@ impl Session {
     }
 
     /// Appends the text of a reply that this session gave, or of another one without atoms. Where there is no memory
-    /// for it a front of it was appended, or nothing.
+    /// for it a front of it was appended, or nothing. A reply that this session gave may be printed at any later time
+    /// until the session is sealed, since each call that is done keeps what names meant before.
     pub fn print(&mut self, reply: &Reply, into: &mut Vec<u8>) -> Result<(), OutOfMemory>
         requires { IsNamed (length (table_of self.old)) reply.now }
         ensures ok { OnOk result (into.new.items ≡ into.old.items ++ reply_text (said_by (table_of self.old) reply.now)) }
