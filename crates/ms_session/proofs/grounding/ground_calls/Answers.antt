@@ -32,10 +32,10 @@ returns-clause-sound c =
     c.join_module.ensures
 
 pub returns-in-Err-Later-clause-keeps : goal.returns-in-Err-Later-clause-keeps
-returns-in-Err-Later-clause-keeps c = (rw c.in-Err-Later.field-0-is at c.in-Err-Later.ensures).keeps
+returns-in-Err-Later-clause-keeps c = let h = rw c.in-Err-Later.field-0-is at c.in-Err-Later.ensures in h.keeps
 
 pub returns-in-Err-TooLarge-clause-keeps : goal.returns-in-Err-TooLarge-clause-keeps
-returns-in-Err-TooLarge-clause-keeps c = (rw c.in-Err-TooLarge.field-0-is at c.in-Err-TooLarge.ensures).keeps
+returns-in-Err-TooLarge-clause-keeps c = let h = rw c.in-Err-TooLarge.field-0-is at c.in-Err-TooLarge.ensures in h.keeps
 
 pub returns-clause-keeps : goal.returns-clause-keeps
 returns-clause-keeps c = IfOk-weaker c.join_module.result _ _ (λ reply h. c.in-Ok.ensures.keeps) c.join_module.ensures
