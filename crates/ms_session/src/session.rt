@@ -7,7 +7,7 @@ ghost use Rattle.ms_machine.specs.Listing.{tree_of_value};
 ghost use Rattle.ms_machine.specs.Machine.{start};
 ghost use Rattle.ms_machine.specs.Replies.{reply_text, said_by};
 ghost use Rattle.ms_session.specs.Kept.{Assigns, IsDone, IsFound, IsGiven, IsNamed, IsSealed, Releases, state_of, table_of};
-ghost use Rattle.ms_session.specs.Steps.{HasCount};
+ghost use Rattle.ms_call.specs.Commands.{AsksForSome};
 
 use crate::adding::add_text;
 use crate::atoms::find_atom;
@@ -217,7 +217,7 @@ impl Session {
     /// One step of the machine. A solve asks for at least one answer set. The reply is never `Refused(Command)` or
     /// `Refused(Unfinished)`.
     pub fn step(&mut self, alloc: Global, command: Command) -> Result<Reply, OutOfMemory>
-        requires { HasCount command }
+        requires { AsksForSome command }
         ensures ok { IfOk result (IsDone self.old command self.new) }
         ensures err { OnErr result (IsSealed self.old self.new) }
     {
