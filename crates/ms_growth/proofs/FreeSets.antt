@@ -1,13 +1,12 @@
 -- A possible set, said of the atoms that are inputs in place of a list of them.
-use Rattle.std.proofs.Common.{◌≡◌, ◌≢◌, ◌⊎◌, ℕ, Bool, true, false, List, Option, Some, None, get_or, map, inl, inr, refl, sym, subst, ap}
+use Rattle.std.proofs.Common.{◌≡◌, ◌≢◌, ℕ, Bool, true, false, List, Option, Some, None, get_or, inl, inr, refl, sym, subst, ap}
 use Rattle.std.specs.Prelude.{◌↔◌, IsTrue}
-use Rattle.std.specs.List.{All, Contains}
-use Rattle.std.proofs.lemmas.Bool.{cases_Bool, cases_eq}
+use Rattle.std.specs.List.{All}
+use Rattle.std.proofs.lemmas.Bool.{cases_eq}
 use Rattle.std.proofs.lemmas.List.Elements.{All-contains, All-map, Contains-get_or}
 use Rattle.ms_join.specs.declared.ground_rule.GroundRule.{GroundRule}
 use Rattle.ms_join.specs.declared.ground_rule.Input.{Input}
-use Rattle.ms_join.specs.declared.ground_rule.Rules.{Rules}
-use Rattle.ms_join.specs.AnswerSets.{Allows, IsAnswerSet, IsReductModel, Keeps, KeepsInput}
+use Rattle.ms_join.specs.AnswerSets.{Allows, IsAnswerSet, Keeps, KeepsInput}
 use Rattle.ms_join.specs.Modules.{Join, IsAssigned, IsInput, IsReleased, rules_of}
 use Rattle.ms_released.proofs.Sets.{input_from}
 use Rattle.ms_released.proofs.Staying.{input_of}
@@ -21,8 +20,8 @@ pub record IsFreeSet (rules : List GroundRule) (Is : ℕ → Type 0) (set : ℕ 
       → (a : ℕ) → IsTrue (set a) → IsTrue (other a)
   pub allowed : All (λ rule. Allows set rule.kind rule) rules
 
--- Fewer free atoms are free in the larger case too.
-pub more_free : (rules : List GroundRule) (Is More : ℕ → Type 0) (set : ℕ → Bool) → ((a : ℕ) → Is a → More a) → IsFreeSet rules Is set → IsFreeSet rules More set
+-- It stays one where more atoms are free.
+more_free : (rules : List GroundRule) (Is More : ℕ → Type 0) (set : ℕ → Bool) → ((a : ℕ) → Is a → More a) → IsFreeSet rules Is set → IsFreeSet rules More set
 more_free rules Is More set more free = record {
   model = free.model;
   least = λ other keeps has. free.least other keeps (λ a is. has a (more a is));
@@ -42,7 +41,7 @@ has_values : (set other : ℕ → Bool) (inputs : List Input) → All (λ i. Kee
 has_values set other inputs keeps has k d within = has_value set other (get_or inputs k d).atom (get_or inputs k d).value (keeps k d within) (has k d within)
 
 -- an answer set under any values of some inputs
-pub free_from_answer : (rules : List GroundRule) (inputs : List Input) (Is : ℕ → Type 0) (set : ℕ → Bool) → All (λ i. Is i.atom) inputs
+free_from_answer : (rules : List GroundRule) (inputs : List Input) (Is : ℕ → Type 0) (set : ℕ → Bool) → All (λ i. Is i.atom) inputs
     → IsAnswerSet (record { rules = rules; inputs = inputs }) set → IsFreeSet rules Is set
 free_from_answer rules inputs Is set are answers = record {
   model = answers.model.rules;

@@ -1,5 +1,5 @@
 -- What is possible with more rules was possible before, where no head of a new rule was an output.
-use Rattle.std.proofs.Common.{◌≡◌, ◌≢◌, ◌∙◌, ◌⊎◌, ℕ, ◌+◌, ◌<◌, ◌≤◌, Bool, true, false, not, ◌&&◌, ◌||◌, List, [], ◌∷◌, ◌++◌, Option, Some, None, get_or, refl, sym, subst, ap, inl, inr, arith}
+use Rattle.std.proofs.Common.{◌≡◌, ◌∙◌, ℕ, ◌<◌, ◌≤◌, Bool, not, ◌&&◌, ◌||◌, List, ◌++◌, Option, Some, None, get_or, sym, subst, inl, inr, arith}
 use Rattle.std.specs.Prelude.{IfSome, IsTrue, nat_lt}
 use Rattle.std.specs.List.{All, Contains}
 use Rattle.std.proofs.lemmas.Bool.{and_from, and_parts, cases_Bool, false≢true, lt-ltb, ltb-true, not_from_false, not_from_true, or_cases, or_left, or_right, true_from_ne_false}
@@ -10,7 +10,7 @@ use Rattle.ms_join.specs.declared.ground_rule.GroundKind.TheVariants.{Normal, Ch
 use Rattle.ms_join.specs.declared.ground_rule.GroundRule.{GroundRule}
 use Rattle.ms_join.specs.AnswerSets.{Allows, AreRulesOver, HasHead, IsRuleOver, Keeps, has_all, has_none}
 use Rattle.ms_join.specs.Composability.{IsComposable}
-use Rattle.ms_join.specs.Modules.{Join, IsInput, IsJoined, IsOutput, IsWellFormed, rules_of}
+use Rattle.ms_join.specs.Modules.{Join, IsInput, IsJoined, IsWellFormed, rules_of}
 use Rattle.ms_released.proofs.Sets.{input_from}
 use Rattle.ms_released.proofs.Staying.{input_of}
 use Rattle.ms_growth.specs.Growth.{IsPossible, cut}

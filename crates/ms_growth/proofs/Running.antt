@@ -1,7 +1,7 @@
 -- What stays along a run.
-use Rattle.std.proofs.Common.{◌≡◌, ◌∙◌, ◌⊎◌, ℕ, ◌+◌, ◌<◌, ◌≤◌, Bool, List, [], ◌∷◌, ◌++◌, Some, length, length-append, get_or, inl, inr, refl, sym, subst, ap, arith}
-use Rattle.std.specs.List.{All, Contains, slice_get}
-use Rattle.std.specs.Prelude.{IsSomeAnd, IsTrue}
+use Rattle.std.proofs.Common.{◌≡◌, ◌∙◌, ◌⊎◌, ℕ, ◌+◌, ◌<◌, ◌≤◌, Bool, List, [], ◌∷◌, ◌++◌, Some, length, get_or, inl, inr, sym, subst, ap, arith}
+use Rattle.std.specs.List.{All, slice_get}
+use Rattle.std.specs.Prelude.{IsTrue}
 use Rattle.std.proofs.lemmas.List.{append-nil}
 use Rattle.std.proofs.lemmas.List.Elements.{All-append, Contains-get_or}
 use Rattle.ms_tree.specs.Tree.{Tree}
@@ -12,7 +12,7 @@ use Rattle.ms_join.specs.declared.ground_rule.GroundRule.{GroundRule}
 use Rattle.ms_join.specs.AnswerSets.{set_of}
 use Rattle.ms_join.specs.Modules.{IsInput}
 use Rattle.ms_copies.specs.Grounding.{IsHead}
-use Rattle.ms_copies.specs.Simplifying.{AreNumbers, IsModule}
+use Rattle.ms_copies.specs.Simplifying.{AreNumbers}
 use Rattle.ms_machine.specs.Grounding.{core_of_calls}
 use Rattle.ms_machine.specs.Listing.{IsAnswer}
 use Rattle.ms_machine.specs.Machine.{State, start}
@@ -25,7 +25,7 @@ use Rattle.ms_released.proofs.Steps.{Grows, Stays, same, takes_changes}
 use Rattle.ms_growth.specs.Growth.{IsPossible, cut}
 use Rattle.ms_growth.proofs.Cutting.{IsBelow, below_more, cut_twice}
 use Rattle.ms_growth.proofs.FreeSets.{answer_is_possible}
-use Rattle.ms_growth.proofs.Joining.{Extends, cut_is_possible, join_extends}
+use Rattle.ms_growth.proofs.Joining.{cut_is_possible, join_extends}
 
 -- The rules speak of the atoms of the base.
 record IsClosed (s : State) : Type 0 where
