@@ -1,7 +1,7 @@
 mod CoreHeads
 mod Names
-mod Sets
-mod Steps
-mod Staying
-mod Reaching
-mod Seen
+pub mod Sets
+pub mod Steps
+pub mod Staying
+pub mod Reaching
+pub mod Seen

@@ -29,7 +29,7 @@ pub record IsOrderly (s : State) : Type 0 where
   pub each_once : HasEachOnce s.names
   pub heads : All (λ rule. (h : ℕ) → rule.head ≡ Some h → IsOutput s.join h) s.join.rules
 
-orderly_start : IsOrderly start
+pub orderly_start : IsOrderly start
 orderly_start = record {
   counted = refl;
   each_once = λ a b t at_a at_b. cc;
@@ -44,7 +44,7 @@ orderly_still old new stays is = record {
       (λ k d within h head. output_stays old.join new.join stays.atoms stays.inputs h (is.heads k d within h head));
 }
 
-within_names : (names : List Tree) (P : Tree → Type 0) (a : ℕ) → IsSomeAnd (slice_get names a) P → a < length names
+pub within_names : (names : List Tree) (P : Tree → Type 0) (a : ℕ) → IsSomeAnd (slice_get names a) P → a < length names
 within_names [] P a is = absurd is
 within_names (x ∷ xs) P zero is = omega arith
 within_names (x ∷ xs) P (suc a) is = let rest = within_names xs P a is in omega arith
@@ -68,7 +68,7 @@ orderly_grown old new grows is =
           output_from_head old.join new.join m grows.joins.joined h (subst (λ n. h < n) counted below) among));
     }
 
-orderly_after : (old new : State) → Stays old new ⊎ Grows old new → IsOrderly old → IsOrderly new
+pub orderly_after : (old new : State) → Stays old new ⊎ Grows old new → IsOrderly old → IsOrderly new
 orderly_after old new (inl stays) is = orderly_still old new stays is
 orderly_after old new (inr grows) is = orderly_grown old new grows is
 

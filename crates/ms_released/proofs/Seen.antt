@@ -44,7 +44,7 @@ lost atom s was =
 
 -- ---- answer sets
 
-in_set : (set : List ℕ) (a : ℕ) → Contains set a → IsTrue (set_of set a)
+pub in_set : (set : List ℕ) (a : ℕ) → Contains set a → IsTrue (set_of set a)
 in_set [] a (k, within, at) = absurd (omega arith)
 in_set (x ∷ xs) a (zero, within, at) = or_left (eqb x a) (set_of xs a) (eq-eqb x a at)
 in_set (x ∷ xs) a (suc k, within, at) = or_right (eqb x a) (set_of xs a) (in_set xs a (k, omega arith, at))
@@ -60,7 +60,7 @@ in_no_answer atom s assume set was answer = not_in s (tree_of_value atom) assume
 
 -- ---- listings
 
-none_shown : (shows : Tree → Bool) (names : List Tree) (t : Tree) (sets : List (List ℕ)) (lists : List (List Tree)) → All (λ set. ¬ HasAtom names set t) sets
+pub none_shown : (shows : Tree → Bool) (names : List Tree) (t : Tree) (sets : List (List ℕ)) (lists : List (List Tree)) → All (λ set. ¬ HasAtom names set t) sets
     → AllZip (IsShownList shows names) sets lists → All (λ shown. ¬ Contains shown t) lists
 none_shown shows names t [] [] lacks zip = All-nil (λ (shown : List Tree). ¬ Contains shown t)
 none_shown shows names t (set ∷ sets) (shown ∷ lists) lacks zip =

@@ -134,7 +134,7 @@ either_way : (old new : State) → Stays old new ⊎ Grows old new → (a : ℕ)
 either_way old new (inl stays) a lies = still old new stays a lies
 either_way old new (inr grows) a lies = grown old new grows a lies
 
-name_stays : (old new : State) → Stays old new ⊎ Grows old new → (a : ℕ) (t : Tree) → slice_get old.names a ≡ Some t → slice_get new.names a ≡ Some t
+pub name_stays : (old new : State) → Stays old new ⊎ Grows old new → (a : ℕ) (t : Tree) → slice_get old.names a ≡ Some t → slice_get new.names a ≡ Some t
 name_stays old new (inl stays) a t at = subst (λ names. slice_get names a ≡ Some t) (sym stays.names) at
 name_stays old new (inr grows) a t at = subst (λ names. slice_get names a ≡ Some t) (sym grows.joins.longer) (at_front old.names grows.joins.names a t at)
 

@@ -35,7 +35,7 @@ same_join old new names join = record {
   inputs = λ i has. input_from old.join i (subst (λ (j : Join). Contains j.inputs i) join has);
 }
 
-same : (old new : State) → new ≡ old → Stays old new ⊎ Grows old new
+pub same : (old new : State) → new ≡ old → Stays old new ⊎ Grows old new
 same old new is = inl (same_join old new (ap (λ (s : State). s.names) is) (ap (λ (s : State). s.join) is))
 
 pub changes : (old : State) (c : Command) (reply : Reply) (new : State) → Step old c reply new → Stays old new ⊎ Grows old new

@@ -1,0 +1,6 @@
+mod Lists
+mod FreeSets
+mod Cutting
+mod Joining
+mod Running
+mod Listed
