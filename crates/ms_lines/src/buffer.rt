@@ -3,6 +3,7 @@ ghost use Rattle.std.specs.Prelude.{◌≡◌, ◌↔◌, ◌≤◌, [], ◌++�
 ghost use Rattle.ms_lines.specs.Buffers.{IsLineLen, HasNoLine};
 
 use ms_base::memory::OutOfMemory;
+use ms_base::seq::Bytes;
 use ms_lex::line_len;
 use std::alloc::Global;
 use std::marker::Model;
@@ -34,6 +35,17 @@ impl Buffer {
     {
         Buffer {
             bytes: Vec::new(alloc),
+            gone: 0,
+            seen: 0,
+        }
+    }
+
+    /// Takes these bytes over, which takes no memory.
+    pub fn over(bytes: Bytes) -> Buffer
+        ensures { result ≡ bytes }
+    {
+        Buffer {
+            bytes: bytes.into_vec(),
             gone: 0,
             seen: 0,
         }

@@ -23,6 +23,7 @@ mod words;
 use buffer::Buffer;
 use kinds::{LineKind, line_kind};
 pub use ms_base::memory::OutOfMemory;
+use ms_base::seq::Bytes;
 pub use ms_call::command::{Assumption, Assumptions, Call, Calls, Command, Truth};
 pub use pieces::{Script, read_pieces};
 use std::alloc::Global;
@@ -57,6 +58,16 @@ impl Lines {
         Lines {
             text: None,
             rest: Buffer::new(alloc),
+        }
+    }
+
+    /// A script that came as one piece. It is taken over, which takes no memory.
+    pub fn over(script: Bytes) -> Lines
+        ensures { result ≡ record { text = None; rest = script } }
+    {
+        Lines {
+            text: None,
+            rest: Buffer::over(script),
         }
     }
 

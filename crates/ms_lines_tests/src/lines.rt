@@ -358,6 +358,19 @@ fn write_fed(alloc: Global, out: &mut Vec<u8>, fed: &Fed) -> Result<bool, Fail> 
     }
 }
 
+/// Writes what a script still says, and whether it ends inside a text.
+fn write_rest(alloc: Global, out: &mut Vec<u8>, lines: &mut Lines) -> Result<(), Fail> {
+    for _ in 0..100 {
+        if !write_fed(alloc, out, &lines.end(alloc)?)? {
+            break;
+        }
+    }
+    if lines.unfinished() {
+        out.push(b'?')?;
+    }
+    Ok(())
+}
+
 /// What a script says that comes in these pieces.
 fn said(alloc: Global, pieces: &[&[u8]]) -> Result<Vec<u8>, Fail> {
     let mut out = Vec::new(alloc);
@@ -370,14 +383,15 @@ fn said(alloc: Global, pieces: &[&[u8]]) -> Result<Vec<u8>, Fail> {
             }
         }
     }
-    for _ in 0..100 {
-        if !write_fed(alloc, &mut out, &lines.end(alloc)?)? {
-            break;
-        }
-    }
-    if lines.unfinished() {
-        out.push(b'?')?;
-    }
+    write_rest(alloc, &mut out, &mut lines)?;
+    Ok(out)
+}
+
+/// What a script says that is taken over whole.
+fn said_whole(alloc: Global, script: &[u8]) -> Result<Vec<u8>, Fail> {
+    let mut out = Vec::new(alloc);
+    let mut lines = Lines::over(Bytes::copied(alloc, script)?);
+    write_rest(alloc, &mut out, &mut lines)?;
     Ok(out)
 }
 
@@ -386,6 +400,8 @@ fn reads_scripts(rt: HostRuntime) -> Result<(), Fail> {
     for row in ROWS {
         let out = said(rt.alloc(), &[row.script])?;
         assert_eq!(rt; out.as_slice(), row.says, "{}", row.message);
+        let whole = said_whole(rt.alloc(), row.script)?;
+        assert_eq!(rt; whole.as_slice(), row.says, "{}, whole", row.message);
     }
     Ok(())
 }

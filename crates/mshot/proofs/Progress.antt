@@ -1,5 +1,5 @@
 -- How the replies go on by one item.
-use Rattle.std.proofs.Common.{◌≡◌, ◌∙◌, inl, inr, ℕ, ◌+◌, Bool, true, false, ◌||◌, List, [], ◌∷◌, ◌++◌, length, take, Option, Some, None, IsSome, Result, Ok, Err, IfOk, OnOk, OnErr, is_err, sym, subst, ap, refl, append_assoc}
+use Rattle.std.proofs.Common.{◌≡◌, ◌∙◌, inl, inr, ℕ, ◌+◌, Bool, true, false, ◌||◌, List, [], ◌∷◌, ◌++◌, length, take, Option, Some, None, IsSome, Result, Ok, Err, IfOk, OnOk, OnErr, sym, subst, ap, refl, append_assoc}
 use Rattle.std.specs.List.{list_any}
 use Rattle.std.proofs.lemmas.Bool.{false≢true}
 use Rattle.std.proofs.lemmas.List.{append-nil}
@@ -50,10 +50,10 @@ one_written : (held : List ℕ) (replies : List Reply) (reply : Reply) → held 
 one_written held replies reply = append_assoc held (replies_text replies) (reply_text reply) ∙ ap (λ t. held ++ t) (sym (replies_text-push replies reply))
 
 -- what the script said
-pub said_first : (script : List ℕ) (before lines : Lines) → before ≡ record { text = None; rest = [] } → lines ≡ record before { rest = before.rest ++ script } → HasSaid script [] lines
-said_first script before lines none fed items cut =
-    let text : lines.text ≡ None = ap (λ l. l.text) fed ∙ ap (λ l. l.text) none in
-    let rest : lines.rest ++ [] ≡ script = append-nil lines.rest ∙ ap (λ l. l.rest) fed ∙ ap (λ l. l.rest ++ script) none in (
+pub said_first : (script : List ℕ) (lines : Lines) → lines ≡ record { text = None; rest = script } → HasSaid script [] lines
+said_first script lines first items cut =
+    let text : lines.text ≡ None = ap (λ l. l.text) first in
+    let rest : lines.rest ++ [] ≡ script = append-nil lines.rest ∙ ap (λ l. l.rest) first in (
       λ has. (items, refl, subst (λ t. HaveItems t (lines_in true (lines.rest ++ [])) items cut) (sym text) (subst (λ r. HaveItems None (lines_in true r) items cut) (sym rest) has)),
       λ more.
           subst (λ is. HasItems None script is cut) (sym more.1)
@@ -259,11 +259,7 @@ module _ (script : List ℕ) (lines next : Lines) (state new : State) (first : H
   all_stopped (Ok more) put = tt
   all_stopped (Err stop) put = λ held at. put script held (answered script held (answered_none script lines state held before first begins at))
 
--- what holds where a call didn't fail, and where another one did
-pub where_fed : {A E : Type 0} {P : Type 0} (r : Result A E) (failed : Bool) → failed ≡ is_err r → failed ≡ false → OnOk r P → P
-where_fed (Ok x) failed is not_failed p = p
-where_fed (Err e) failed is not_failed p = absurd (false≢true (sym not_failed ∙ is))
-
+-- what holds, holds where a call failed
 pub where_failed : {A E : Type 0} {P : Type 0} (r : Result A E) → P → OnErr r P
 where_failed (Ok x) p = tt
 where_failed (Err e) p = p

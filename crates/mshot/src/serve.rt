@@ -7,6 +7,7 @@ ghost use Rattle.mshot.specs.Serving.{Goes, HasAnswered, HasStopped, WritesFront
 
 use crate::status::Status;
 use ms_base::memory::OutOfMemory;
+use ms_base::seq::Bytes;
 use ms_io::Sink;
 use ms_lines::{Fed, Lines};
 use ms_machine::reply::{Refusal, Reply};
@@ -112,27 +113,24 @@ fn put_end<K: Sink>(
 }
 
 /// Writes all replies to a script, and says whether one is a refusal.
-fn put_all<K: Sink>(alloc: Global, script: &[u8], out: &mut K) -> Result<bool, Stop>
+fn put_all<K: Sink>(alloc: Global, script: Bytes, out: &mut K) -> Result<bool, Stop>
     ensures counts { K.faults out.old ≤ K.faults out.new }
     ensures fault { result ≡ Err Stop.Fault → Rose (K.faults out.old) (K.faults out.new) }
-    ensures replies { IfOk result (λ refused. (held : List ℕ) → K.held out.old ≡ Some held → (now : List ℕ) × (K.held out.new ≡ Some now) × WritesReplies refused script.now held now) }
-    ensures stopped { OnErr result ((held : List ℕ) → K.held out.old ≡ Some held → HasStopped script.now held (K.held out.new)) }
+    ensures replies { IfOk result (λ refused. (held : List ℕ) → K.held out.old ≡ Some held → (now : List ℕ) × (K.held out.new ≡ Some now) × WritesReplies refused script held now) }
+    ensures stopped { OnErr result ((held : List ℕ) → K.held out.old ≡ Some held → HasStopped script held (K.held out.new)) }
 {
-    let mut lines = Lines::new(alloc);
-    if lines.feed(script).is_err() {
-        return Err(Stop::OutOfMemory);
-    }
+    let mut lines = Lines::over(script);
     let mut session = Session::new(alloc);
     let refused = put_replies(alloc, &mut lines, &mut session, out)?;
     put_end(alloc, &lines, &mut session, refused, out)
 }
 
 /// Writes the replies to a script, one after another.
-pub fn answer<K: Sink>(alloc: Global, script: &[u8], out: &mut K) -> Status
+pub fn answer<K: Sink>(alloc: Global, script: Bytes, out: &mut K) -> Status
     ensures counts { K.faults out.old ≤ K.faults out.new }
     ensures fault { result ≡ Status.WriteFault → Rose (K.faults out.old) (K.faults out.new) }
     ensures ends { IsAfterReading result }
-    ensures replies { (held : List ℕ) → K.held out.old ≡ Some held → (now : List ℕ) × (K.held out.new ≡ Some now) × Writes result script.now held now }
+    ensures replies { (held : List ℕ) → K.held out.old ≡ Some held → (now : List ℕ) × (K.held out.new ≡ Some now) × Writes result script held now }
 {
     match put_all(alloc, script, out) {
         Ok(false) => Status::Done,

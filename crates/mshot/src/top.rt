@@ -46,7 +46,7 @@ pub fn mshot<S: Source, K: Sink, L: Sink>(
         return Status::Usage;
     }
     match read_all(alloc, src) {
-        Ok(script) => answer(alloc, script.as_slice(), out),
+        Ok(script) => answer(alloc, script, out),
         Err(InputStop::Fault) => Status::ReadFault,
         Err(InputStop::TooLong) => Status::TooLong,
         Err(InputStop::OutOfMemory) => Status::NoMemory,

@@ -38,7 +38,7 @@ returns-in-Err-OutOfMemory-clause-replies g c = λ words script held at told. st
 pub returns-in-Ok-clause-replies : goal.returns-in-Ok-clause-replies
 returns-in-Ok-clause-replies g c = λ words script held at told.
     let read = c.in-Ok.ensures.input script at in
-    subst (λ s. (now : List ℕ) × (g.K.Sink.held c.answer.new.out ≡ Some now) × Writes c.answer.result s held now) (c.as_slice-in-Ok.ensures ∙ read.1) (c.answer.ensures.replies held told)
+    subst (λ s. (now : List ℕ) × (g.K.Sink.held c.answer.new.out ≡ Some now) × Writes c.answer.result s held now) read.1 (c.answer.ensures.replies held told)
 
 pub returns-in-Ok-clause-input : goal.returns-in-Ok-clause-input
 returns-in-Ok-clause-input g c = λ words script at.
