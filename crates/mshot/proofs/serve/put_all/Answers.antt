@@ -7,14 +7,14 @@ returns-in_err-refused-clause-stopped g c =
     where_failed c.from_residual.result
     (λ held at.
     c.in_err-refused.ensures.stopped c.args.script held
-    (answered_none c.args.script c.over.result (state_of c.new.result) held (g.K.Sink.held c.args.out.now) (said_first c.args.script c.over.result c.over.ensures) c.new.ensures.start at))
+    (answered_none c.args.script c.over-lines.result (state_of c.new-session.result) held (g.K.Sink.held c.args.out.now) (said_first c.args.script c.over-lines.result c.over-lines.ensures) c.new-session.ensures.start at))
 
 pub returns-clause-replies : goal.returns-clause-replies
 returns-clause-replies g c =
-    all_written c.args.script c.over.result c.put_replies.new.lines (state_of c.new.result) (state_of c.put_replies.new.session) (said_first c.args.script c.over.result c.over.ensures) c.new.ensures.start
+    all_written c.args.script c.over-lines.result c.put_replies.new.lines (state_of c.new-session.result) (state_of c.put_replies.new.session) (said_first c.args.script c.over-lines.result c.over-lines.ensures) c.new-session.ensures.start
     (g.K.Sink.held c.args.out.now) (g.K.Sink.held c.put_replies.new.out) (g.K.Sink.held c.put_end.new.out) c.in_ok-refused.refused c.in_ok-refused.ensures.answered c.put_end.result c.put_end.ensures.replies
 
 pub returns-clause-stopped : goal.returns-clause-stopped
 returns-clause-stopped g c =
-    all_stopped c.args.script c.over.result c.put_replies.new.lines (state_of c.new.result) (state_of c.put_replies.new.session) (said_first c.args.script c.over.result c.over.ensures) c.new.ensures.start
+    all_stopped c.args.script c.over-lines.result c.put_replies.new.lines (state_of c.new-session.result) (state_of c.put_replies.new.session) (said_first c.args.script c.over-lines.result c.over-lines.ensures) c.new-session.ensures.start
     (g.K.Sink.held c.args.out.now) (g.K.Sink.held c.put_replies.new.out) (g.K.Sink.held c.put_end.new.out) c.in_ok-refused.refused c.in_ok-refused.ensures.answered c.put_end.result c.put_end.ensures.stopped
