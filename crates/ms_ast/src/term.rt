@@ -4,10 +4,10 @@ ghost use Rattle.ms_ast.specs.Ink.{ink_text, sign_text};
 ghost use Rattle.ms_ast.specs.Terms.{printed, at_line, op_kind, op_line, right_line, list_ink, lists_ink, tuple, function, alternatives_ink, are_no_arguments};
 
 use crate::line::Line;
-use crate::word::{print_integer, print_string};
+use crate::word::print_integer;
 use ms_base::memory::OutOfMemory;
 use ms_grammar::term::{TextTerm, TextTerms};
-use ms_tree::Op;
+use ms_tree::{Op, print_string};
 
 /// Appends a term. It calls itself as deep as the term is high, which in the grammar is at most 201.
 #[cycle(print)]

@@ -3,9 +3,10 @@ ghost use Rattle.std.specs.Prelude.{◌≡◌, ◌++◌, map, OnOk};
 ghost use Rattle.ms_ast.specs.Ink.{ink_text, side_by_side, comma};
 ghost use Rattle.ms_ast.specs.Values.{value_ink, function_ink, is_constant, closing_text};
 
-use crate::word::{print_integer, print_string};
+use crate::word::print_integer;
 use ms_base::memory::OutOfMemory;
 use ms_grammar::value::Value;
+use ms_tree::print_string;
 
 /// Appends a value.
 #[cycle(print)]

@@ -7,9 +7,10 @@ ghost use Rattle.ms_term.specs.Terms.{trees, tree_of, term_at, terms_at, held, A
 
 use crate::node::{Arguments, Node};
 use crate::term_id::TermId;
-use crate::text::{closing, end_without_arguments, print_number, print_string};
+use crate::text::{closing, end_without_arguments, print_number};
 use indexmap::IndexSet;
 use ms_base::memory::OutOfMemory;
+use ms_tree::print_string;
 use std::alloc::Global;
 use std::cmp::Ordering;
 use std::marker::Model;

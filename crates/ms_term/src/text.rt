@@ -1,6 +1,6 @@
-ghost use Rattle.std.specs.Prelude.{◌≡◌, ◌∷◌, [], ◌++◌, List, OnOk};
-ghost use Rattle.ms_tree.specs.Tree.{Tree, number, text};
-ghost use Rattle.ms_tree.specs.Text.{tree_text, escaped, escaped_byte, no_arguments_text, closing_text};
+ghost use Rattle.std.specs.Prelude.{◌≡◌, [], ◌++◌, List, OnOk};
+ghost use Rattle.ms_tree.specs.Tree.{Tree, number};
+ghost use Rattle.ms_tree.specs.Text.{tree_text, no_arguments_text, closing_text};
 ghost use Rattle.ms_term.specs.Terms.{terms_at};
 
 use crate::term_id::TermId;
@@ -12,42 +12,6 @@ pub(crate) fn print_number(n: i64, into: &mut Vec<u8>) -> Result<(), OutOfMemory
 {
     let mut buffer = itoa::Buffer::new();
     into.extend_from_slice(buffer.format(n).as_bytes())?;
-    Ok(())
-}
-
-// Appends a string in double quotes.
-pub(crate) fn print_string(bytes: &[u8], into: &mut Vec<u8>) -> Result<(), OutOfMemory>
-    ensures { OnOk result (into.new.items ≡ into.old.items ++ tree_text (text bytes.now)) }
-{
-    into.push(b'"')?;
-    print_escaped(bytes, into)?;
-    into.push(b'"')?;
-    Ok(())
-}
-
-fn print_escaped(bytes: &[u8], into: &mut Vec<u8>) -> Result<(), OutOfMemory>
-    ensures { OnOk result (into.new.items ≡ into.old.items ++ escaped bytes.now) }
-{
-    let mut rest = bytes;
-    while let [byte, after @ ..] = rest {
-        print_byte(*byte, into)?;
-        rest = after;
-    }
-    Ok(())
-}
-
-fn print_byte(byte: u8, into: &mut Vec<u8>) -> Result<(), OutOfMemory>
-    ensures { OnOk result (into.new.items ≡ into.old.items ++ escaped_byte byte) }
-{
-    if byte == b'"' {
-        into.extend_from_slice(b"\\\"")?;
-    } else if byte == b'\\' {
-        into.extend_from_slice(b"\\\\")?;
-    } else if byte == b'\n' {
-        into.extend_from_slice(b"\\n")?;
-    } else {
-        into.push(byte)?;
-    }
     Ok(())
 }
 

@@ -2,5 +2,7 @@
 #![tactic(auto)]
 
 mod op;
+mod string;
 
 pub use op::Op;
+pub use string::print_string;
