@@ -1,5 +1,5 @@
 -- Which words after a command's word say which command.
-use Rattle.std.specs.Prelude.{ℕ, ◌≡◌, ◌≢◌, ◌≤◌, ◌⊎◌, Bool, true, false, List, [], ◌∷◌, ◌++◌, Some, codes}
+use Rattle.std.specs.Prelude.{ℕ, ◌≡◌, ◌≢◌, ◌≤◌, ◌⊎◌, ⊤, Bool, true, false, List, [], ◌∷◌, ◌++◌, Some, codes}
 use Rattle.ms_text.specs.declared.token.TokenKind.TheVariants.{Not, Comma, LeftParen, RightParen, Equal}
 use Rattle.ms_grammar.specs.declared.value.Value.{Value}
 use Rattle.ms_grammar.specs.declared.part.ValuePart.{ValuePart}
@@ -115,3 +115,8 @@ IsSaid word ws (Ground calls) = (word ≡ codes "ground") × AreSome IsCall ws c
 IsSaid word ws (Assign atom truth) = (word ≡ codes "assign") × IsAssign ws atom truth
 IsSaid word ws (Release atom) = (word ≡ codes "release") × IsAtom ws atom
 IsSaid word ws (Solve count limit assume) = (word ≡ codes "solve") × IsSolve ws count limit assume
+
+-- a solve asks for at least one answer set
+abbrev pub AsksForSome : Command → Type 0
+AsksForSome (Solve count limit assume) = 1 ≤ count
+AsksForSome command = ⊤

@@ -79,9 +79,13 @@ pub record AreNew (base : List Tree) (rules : List CoreRule) (names : List Tree)
   pub rising : IsStrictlySortedBy compare_trees names
   pub members : (t : Tree) → Contains names t ↔ (IsKnown base rules t × (¬ Contains base t))
 
+-- none has an aggregate
+abbrev pub ArePlain : List CoreRule → Type 0
+ArePlain rules = All (λ rule. rule.aggs ≡ []) rules
+
 -- The ground module of the rules over the base, where the new atoms are these terms.
 pub record IsModule (base : List Tree) (rules : List CoreRule) (names : List Tree) (m : GroundModule) : Type 0 where
-  pub plain : All (λ rule. rule.aggs ≡ []) rules
+  pub plain : ArePlain rules
   pub first : m.first_new ≡ length base
   pub fresh : m.fresh ≡ length names
   pub new : AreNew base rules names

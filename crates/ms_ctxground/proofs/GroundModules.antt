@@ -199,6 +199,9 @@ module _ (table : List Tree) (different : AllDifferent table) (instances : List 
         rules = rw (← size_is) (λ k d within.
             let (j, i, below, at, is) = rules_are.all.each k d within in
             rule_over i (get_or m.rules k d) (All-contains (λ i. IsHeaded i.kind i.head) instances i headed (j, below, at)) is);
+        bodies = λ k d within.
+            let (j, i, below, at, is) = rules_are.all.each k d within in
+            record { pos = is.pos.rising; neg = is.neg.rising };
         heads = rw (← size_is) (atom_set new (outputs_of instances) m.heads heads_are);
         externals = rw (← size_is) (atom_set new (externals_of instances) m.externals externals_are);
         headed = λ k d within.

@@ -19,7 +19,7 @@ use Rattle.ms_instances.specs.declared.fault.InstanceFault.TheVariants.{TooMany,
 use Rattle.ms_instances.specs.Naming.{AreInstances, IsHeadedRule, Refuses}
 use Rattle.ms_instances.proofs.Counting.{too_many, not_too_many}
 use Rattle.ms_instances.proofs.Modules.{known_by, module_by}
-use Rattle.ms_machine.specs.Grounding.{ArePlain}
+use Rattle.ms_copies.specs.Simplifying.{ArePlain}
 use Rattle.ms_ctxground.specs.Grounds.{Grounds, IsBaseIn, IsGround, IsRefused}
 use Rattle.ms_ctxground.specs.Faults.{fault_of}
 use Rattle.ms_ctxground.specs.declared.fault.GroundFault.{GroundFault}

@@ -7,9 +7,8 @@ use Rattle.ms_term.specs.Terms.{term_at}
 use Rattle.ms_core.specs.declared.rule.CoreRule.{CoreRule}
 use Rattle.ms_join.specs.declared.ground_module.GroundModule.{GroundModule}
 use Rattle.ms_join.specs.Modules.{IsWellFormed}
-use Rattle.ms_copies.specs.Simplifying.{IsModule}
+use Rattle.ms_copies.specs.Simplifying.{ArePlain, IsModule}
 use Rattle.ms_copies.specs.Limits.{most_symbols, IsTooLarge}
-use Rattle.ms_machine.specs.Grounding.{ArePlain}
 use Rattle.ms_value.specs.Naming.{Keeps}
 use Rattle.ms_ctxground.specs.declared.fault.GroundFault.{GroundFault}
 use Rattle.ms_ctxground.specs.declared.fault.GroundFault.TheVariants.{Later, TooLarge, OutOfMemory}

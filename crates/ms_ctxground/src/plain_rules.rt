@@ -2,7 +2,7 @@
 ghost use Rattle.std.specs.Prelude.{◌≡◌, ◌≤◌, All, IsTrue, false, length};
 ghost use Rattle.ms_term.specs.Terms.{trees};
 ghost use Rattle.ms_instances.specs.Naming.{IsHeadedRule};
-ghost use Rattle.ms_machine.specs.Grounding.{ArePlain};
+ghost use Rattle.ms_copies.specs.Simplifying.{ArePlain};
 ghost use Rattle.ms_ctxground.specs.Grounds.{Grounds, HasAggregates, IsBaseIn};
 
 use crate::fault::GroundFault;

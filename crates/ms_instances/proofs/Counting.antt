@@ -17,7 +17,7 @@ use Rattle.ms_copies.proofs.Listed.{map_parts, map_among, choices_from, choices_
 use Rattle.ms_instances.specs.Listing.{said_of, said_by_rule, all_said}
 use Rattle.ms_instances.proofs.Members.{contains_more, all_from}
 use Rattle.ms_instances.proofs.Copies.{some_of, says_copy, copy_says}
-use Rattle.ms_instances.proofs.Modules.{ArePlain}
+use Rattle.ms_copies.specs.Simplifying.{ArePlain}
 use Rattle.ms_instances.proofs.Different.{Different, nothing_in, different_pairs, pairs_different, different_append, different_map, different_flat, different_filter, filter_parts, filter_among, no_longer}
 
 not_again : (low high : ℤ) → Contains (integers (low +ℤ pos 1) high) low → ⊥

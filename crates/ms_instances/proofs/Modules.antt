@@ -12,16 +12,12 @@ use Rattle.ms_join.specs.declared.ground_module.GroundModule.{GroundModule}
 use Rattle.ms_copies.specs.Evaluating.{Chosen, value}
 use Rattle.ms_copies.specs.Choosing.{IsCopy}
 use Rattle.ms_copies.specs.Grounding.{gives_head, gives_external, head_under, IsHeadOf, IsHead, IsExternal, IsKnown}
-use Rattle.ms_copies.specs.Simplifying.{ground_kind, IsAmong, IsValueOf, IsNumbered, AreNumbers, IsLeft, AreLeft, AreNew, IsModule}
+use Rattle.ms_copies.specs.Simplifying.{ArePlain, ground_kind, IsAmong, IsValueOf, IsNumbered, AreNumbers, IsLeft, AreLeft, AreNew, IsModule}
 use Rattle.ms_copies.proofs.Listed.{choices_from, choices_to}
 use Rattle.ms_instances.specs.Instances.{Said, IsHeadAmong, IsKnownBy, Leaves, AreLeftBy, AreNewBy, IsModuleBy}
 use Rattle.ms_instances.specs.Listing.{values, all_said}
 use Rattle.ms_instances.proofs.Members.{source_of, from_source, all_from, any_parts, any_made}
 use Rattle.ms_instances.proofs.Copies.{IsSaid, says, says_copy, copy_says, among_values, value_among, known_to, known_from}
-
--- No rule has an aggregate.
-abbrev pub ArePlain : List CoreRule → Type 0
-ArePlain rules = All (λ rule. rule.aggs ≡ []) rules
 
 -- the copy that what is said comes from
 pub record Comes (rules : List CoreRule) (s : Said) : Type 0 where

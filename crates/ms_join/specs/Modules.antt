@@ -3,6 +3,7 @@
 -- Source: Oikarinen and Janhunen, "Modular equivalence for normal logic programs" (2006); externals, and that a released
 -- one is false for good, after Gebser, Kaminski, Kaufmann and Schaub, "Multi-shot ASP solving with clingo" (2019).
 use Rattle.std.specs.Prelude.{ℕ, ◌≡◌, ◌≢◌, ◌↔◌, ◌+◌, ◌<◌, ◌≤◌, ◌⊎◌, ◌++◌, Bool, true, false, List, [], Option, Some, None, All, AllPairs, Any, Contains, IfSome, length}
+use Rattle.std.specs.List.Sorted.{IsStrictlyIncreasing}
 use Rattle.ms_join.specs.declared.ground_rule.GroundRule.{GroundRule}
 use Rattle.ms_join.specs.declared.ground_rule.Input.{Input}
 use Rattle.ms_join.specs.declared.ground_rule.Rules.{Rules}
@@ -11,13 +12,19 @@ use Rattle.ms_join.specs.declared.truth.Truth.{Truth}
 use Rattle.ms_join.specs.declared.truth.Truth.TheVariants.{True, False, Free}
 use Rattle.ms_join.specs.AnswerSets.{IsAtomSet, IsRuleOver, AreRulesOver}
 
+-- The positive and the negated atoms of the rule are sets, as lists in rising order.
+pub record HasSets (rule : GroundRule) : Type 0 where
+  pub pos : IsStrictlyIncreasing rule.pos
+  pub neg : IsStrictlyIncreasing rule.neg
+
 -- The module is well formed over a base of so many atoms: the numbers of its new atoms follow those of the base,
--- its rules, heads and externals speak of these atoms alone, a constraint has no head, the head of every other rule is
--- among the heads, and each new atom is a head or a declared external.
+-- its rules, heads and externals speak of these atoms alone, the bodies of its rules are sets, a constraint has no head,
+-- the head of every other rule is among the heads, and each new atom is a head or a declared external.
 pub record IsWellFormed (base : ℕ) (m : GroundModule) : Type 0 where
   pub first : m.first_new ≡ base
   pub fresh : m.fresh ≡ length m.names
   pub rules : All (IsRuleOver (base + m.fresh)) m.rules
+  pub bodies : All HasSets m.rules
   pub heads : IsAtomSet (base + m.fresh) m.heads
   pub externals : IsAtomSet (base + m.fresh) m.externals
   pub headed : All (λ rule. IfSome rule.head (Contains m.heads)) m.rules

@@ -9,7 +9,7 @@ use Rattle.ms_grammar.specs.Words.{Word}
 use Rattle.ms_call.specs.declared.command.Assumption.{Assumption}
 use Rattle.ms_call.specs.declared.command.Command.{Command as a_command}
 use Rattle.ms_call.specs.declared.command.Command.TheVariants.{Add, Ground, Assign, Release, Solve}
-use Rattle.ms_call.specs.Commands.{IsSaid, IsCount}
+use Rattle.ms_call.specs.Commands.{AsksForSome, IsSaid, IsCount}
 use Rattle.ms_call.specs.Lines.{ends_text}
 use Rattle.ms_call.specs.Items.{Item, command, bad_line, Open, IsLine, Says, text_says, with_item, HaveItems, in_first_line, lines_in}
 use Rattle.ms_lines.specs.declared.Lines.{Lines}
@@ -19,7 +19,7 @@ use Rattle.ms_lines.specs.Kinds.{IsKind}
 use Rattle.ms_lines.specs.Buffers.{IsLineLen, HasNoLine, IsEndOf, LacksLine}
 use Rattle.ms_lines.specs.declared.Fed.{Fed}
 use Rattle.ms_lines.specs.declared.Fed.TheVariants.{Command as is_fed, BadCommand, NotYet}
-use Rattle.ms_lines.specs.Feeding.{SaysThen, SaysAtEnd, HasLeft, item_of, IsShorter, LosesLine, AsksForSome, GivesSome}
+use Rattle.ms_lines.specs.Feeding.{SaysThen, SaysAtEnd, HasLeft, item_of, IsShorter, LosesLine, GivesSome}
 use Rattle.ms_lines.specs.Finding.{IsOnly}
 use Rattle.ms_lines.proofs.Scanning.{front_more}
 

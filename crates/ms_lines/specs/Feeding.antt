@@ -1,8 +1,7 @@
 -- What a script says next, and what it says after that.
-use Rattle.std.specs.Prelude.{ℕ, ◌≡◌, ◌<◌, ◌≤◌, ◌↔◌, ⊤, length, Bool, true, List, [], ◌++◌, Option, Some, None}
+use Rattle.std.specs.Prelude.{ℕ, ◌≡◌, ◌<◌, ◌↔◌, ⊤, length, Bool, true, List, [], ◌++◌, Option, Some, None}
+use Rattle.ms_call.specs.Commands.{AsksForSome}
 use Rattle.ms_call.specs.Items.{Item, command, bad_line, Open, with_item, HaveItems, lines_in}
-use Rattle.ms_call.specs.declared.command.Command.{Command as a_command}
-use Rattle.ms_call.specs.declared.command.Command.TheVariants.{Solve}
 use Rattle.ms_lines.specs.Buffers.{LacksLine}
 use Rattle.ms_lines.specs.declared.Lines.{Lines}
 use Rattle.ms_lines.specs.declared.Fed.{Fed}
@@ -38,11 +37,6 @@ IsShorter fed before after = length after < length before
 abbrev pub LosesLine : Fed → List ℕ → List ℕ → Type 0
 LosesLine NotYet before after = ⊤
 LosesLine fed before after = LacksLine before after
-
--- A solve asks for at least one answer.
-abbrev pub AsksForSome : a_command → Type 0
-AsksForSome (Solve count limit assume) = 1 ≤ count
-AsksForSome c = ⊤
 
 abbrev pub GivesSome : Fed → Type 0
 GivesSome (Command c) = AsksForSome c

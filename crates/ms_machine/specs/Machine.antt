@@ -15,7 +15,8 @@ use Rattle.ms_copies.specs.Limits.{IsTooLarge}
 use Rattle.ms_machine.specs.declared.reply.Refusal.TheVariants.{Syntax, Const, Later, TooLarge, TooMany, Redefined, CrossLoop, Small}
 use Rattle.ms_machine.specs.Listing.{Solves, tree_of_value}
 use Rattle.ms_machine.specs.Replies.{Reply, added, grounded, assigned, released, no_effect, solved, refused}
-use Rattle.ms_machine.specs.Grounding.{core_of_calls, ArePlain, Grounds}
+use Rattle.ms_copies.specs.Simplifying.{ArePlain}
+use Rattle.ms_machine.specs.Grounding.{core_of_calls, Grounds}
 
 -- What the machine keeps: the accepted texts, the terms of the atoms of the base by their numbers, and the join.
 pub record State : Type 0 where

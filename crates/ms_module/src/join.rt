@@ -1,5 +1,5 @@
 // Joins of ground modules.
-ghost use Rattle.std.specs.Prelude.{◌≡◌, ◌+◌, ◌^◌, ◌<◌, ◌++◌, List, All, OnOk, MatchOption, Contains};
+ghost use Rattle.std.specs.Prelude.{◌≡◌, ◌+◌, ◌^◌, ◌<◌, ◌++◌, List, All, OnOk, OnErr, MatchOption, Contains};
 ghost use Rattle.ms_join.specs.declared.ground_rule.GroundRule.{GroundRule};
 ghost use Rattle.ms_join.specs.AnswerSets.{AreRulesOver};
 ghost use Rattle.ms_join.specs.Composability.{IsComposable};
@@ -59,7 +59,8 @@ impl Join {
     pub fn join(&mut self, m: GroundModule) -> Result<(), OutOfMemory>
         requires well_formed { IsWellFormed self.old.atoms m }
         requires composable { IsComposable self.old m }
-        ensures { OnOk result (IsJoined self.old m self.new) }
+        ensures ok { OnOk result (IsJoined self.old m self.new) }
+        ensures err { OnErr result (self.new ≡ no_join) }
     {
         let alloc = self.alloc;
         match add_module(

@@ -21,6 +21,7 @@ found_by old new t (Ok found) was is texts base join sound keeps h = record {
       ∙ ap (λ x. record { texts = old.texts; names = map (term_at (table_of new)) x; join = new.join }) base
       ∙ ap (λ x. record { texts = old.texts; names = map (term_at (table_of new)) old.base; join = x }) join
       ∙ state_kept (table_of old) (table_of new) old.texts old.base old.join keeps sound.named;
+  keeps = keeps;
   found = h;
 }
 found_by old new t (Err e) was is texts base join sound keeps h = tt

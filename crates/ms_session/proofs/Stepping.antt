@@ -16,7 +16,8 @@ use Rattle.ms_machine.specs.declared.reply.Reply.{Reply}
 use Rattle.ms_machine.specs.declared.reply.Reply.TheVariants.{Added, Grounded, Assigned, Released, NoEffect, Solved, Refused}
 use Rattle.ms_machine.specs.declared.reply.Refusal.{Refusal}
 use Rattle.ms_machine.specs.declared.reply.Refusal.TheVariants.{Command, Unfinished, Syntax, Const, Later, TooLarge, TooMany, Redefined, CrossLoop, Small}
-use Rattle.ms_machine.specs.Grounding.{core_of_calls, ArePlain, Grounds}
+use Rattle.ms_copies.specs.Simplifying.{ArePlain}
+use Rattle.ms_machine.specs.Grounding.{core_of_calls, Grounds}
 use Rattle.ms_machine.specs.Machine.{Step}
 use Rattle.ms_machine.specs.Replies.{refused, said_by}
 use Rattle.ms_session.specs.Kept.{IsSound, state_by}

@@ -12,6 +12,7 @@ use Rattle.ms_join.specs.declared.truth.Effect.{Effect}
 use Rattle.ms_join.specs.declared.truth.Effect.TheVariants.{Done, NoEffect}
 use Rattle.ms_join.specs.Modules.{Join, IsInput, IsAssigned, IsReleased, value_of}
 use Rattle.ms_copies.specs.Limits.{most_symbols}
+use Rattle.ms_value.specs.Naming.{Keeps}
 use Rattle.ms_machine.specs.declared.reply.Reply.{Reply as kept_reply}
 use Rattle.ms_machine.specs.declared.reply.Reply.TheVariants.{Solved}
 use Rattle.ms_machine.specs.Machine.{State, Step}
@@ -51,12 +52,14 @@ abbrev pub IsNamed : ℕ → kept_reply → Type 0
 IsNamed size (Solved ending count limit shown) = All (All (λ t. t < size)) shown
 IsNamed size reply = ⊤
 
--- The command was done: the session wasn't sealed and isn't, and the machine may take this step.
+-- The command was done: the session wasn't sealed and isn't, and the machine may take this step. What names meant before
+-- they mean still.
 pub record IsDone (old : Kept) (command : Command) (new : Kept) (reply : kept_reply) : Type 0 where
   pub was_open : old.sealed ≡ false
   pub is_open : new.sealed ≡ false
   pub step : Step (state_of old) command (said_by (table_of new) reply) (state_of new)
   pub named : IsNamed (length (table_of new)) reply
+  pub keeps : Keeps (table_of old) (table_of new)
 
 -- There was no memory for the call, or the session was sealed before, and then nothing changed.
 pub record IsSealed (old new : Kept) : Type 0 where
@@ -78,10 +81,12 @@ abbrev pub IsNumberOf : List Tree → Tree → Option ℕ → Type 0
 IsNumberOf names t number = MatchOption number (¬ Contains names t) (IsAtomOf names t)
 
 -- The base has the atom with this term under this number, or none. The table may have grown, and nothing else changes.
+-- What names meant before they mean still.
 pub record IsFound (old : Kept) (t : Tree) (new : Kept) (number : Option ℕ) : Type 0 where
   pub was_open : old.sealed ≡ false
   pub is_open : new.sealed ≡ false
   pub state : state_of new ≡ state_of old
+  pub keeps : Keeps (table_of old) (table_of new)
   pub found : IsNumberOf (state_of old).names t number
 
 -- The input has this truth from now on, and nothing else changes. Nothing at all does where the atom is no input.

@@ -1,9 +1,8 @@
--- Steps that change the texts alone, and what a step asks of its command.
-use Rattle.std.specs.Prelude.{ℕ, ◌≤◌, List, ⊤}
+-- Steps that change the texts alone.
+use Rattle.std.specs.Prelude.{ℕ, List}
 use Rattle.ms_tree.specs.Tree.{Tree}
 use Rattle.ms_core.specs.Texts.{Texts}
 use Rattle.ms_call.specs.declared.command.Command.{Command}
-use Rattle.ms_call.specs.declared.command.Command.TheVariants.{Solve}
 use Rattle.ms_join.specs.Modules.{Join}
 use Rattle.ms_machine.specs.declared.reply.Reply.{Reply}
 use Rattle.ms_machine.specs.Machine.{Step}
@@ -14,8 +13,3 @@ use Rattle.ms_session.specs.Kept.{state_by, IsNamed}
 pub record StepsTexts (old : Texts) (command : Command) (new : Texts) (reply : Reply) : Type 0 where
   pub step : (table : List Tree) (base : List ℕ) (join : Join) → Step (state_by table old base join) command (said_by table reply) (state_by table new base join)
   pub named : (size : ℕ) → IsNamed size reply
-
--- a solve asks for at least one answer set
-abbrev pub HasCount : Command → Type 0
-HasCount (Solve count limit assume) = 1 ≤ count
-HasCount command = ⊤

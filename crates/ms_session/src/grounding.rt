@@ -1,6 +1,7 @@
 // Grounding calls and joining their module.
 ghost use Rattle.std.specs.Prelude.{◌≡◌, ◌<◌, ◌++◌, All, IfOk, OnOk, length, map};
 ghost use Rattle.ms_term.specs.Terms.{trees, term_at};
+ghost use Rattle.ms_value.specs.Naming.{Keeps};
 ghost use Rattle.ms_call.specs.declared.command.Command.TheVariants.{Ground};
 ghost use Rattle.ms_machine.specs.Machine.{Step};
 ghost use Rattle.ms_machine.specs.Replies.{said_by};
@@ -36,6 +37,7 @@ pub(crate) fn ground_calls(
         (state_by (trees terms.new) parts.now base.new join.new)) }
     ensures sound { OnOk result (IsSound (trees terms.new) base.new join.new) }
     ensures named { IfOk result (IsNamed (length (trees terms.new))) }
+    ensures keeps { OnOk result (Keeps (trees terms.old) (trees terms.new)) }
 {
     let mark = base.mark();
     let ground_module = match ground(alloc, base, terms, parts, calls) {

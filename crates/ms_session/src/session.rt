@@ -7,7 +7,7 @@ ghost use Rattle.ms_machine.specs.Listing.{tree_of_value};
 ghost use Rattle.ms_machine.specs.Machine.{start};
 ghost use Rattle.ms_machine.specs.Replies.{reply_text, said_by};
 ghost use Rattle.ms_session.specs.Kept.{Assigns, IsDone, IsFound, IsGiven, IsNamed, IsSealed, Releases, state_of, table_of};
-ghost use Rattle.ms_session.specs.Steps.{HasCount};
+ghost use Rattle.ms_call.specs.Commands.{AsksForSome};
 
 use crate::adding::add_text;
 use crate::atoms::find_atom;
@@ -217,7 +217,7 @@ impl Session {
     /// One step of the machine. A solve asks for at least one answer set. The reply is never `Refused(Command)` or
     /// `Refused(Unfinished)`.
     pub fn step(&mut self, alloc: Global, command: Command) -> Result<Reply, OutOfMemory>
-        requires { HasCount command }
+        requires { AsksForSome command }
         ensures ok { IfOk result (IsDone self.old command self.new) }
         ensures err { OnErr result (IsSealed self.old self.new) }
     {
@@ -268,7 +268,8 @@ impl Session {
     }
 
     /// Appends the text of a reply that this session gave, or of another one without atoms. Where there is no memory
-    /// for it a front of it was appended, or nothing.
+    /// for it a front of it was appended, or nothing. A reply that this session gave may be printed at any later time
+    /// until the session is sealed, since each call that is done keeps what names meant before.
     pub fn print(&mut self, reply: &Reply, into: &mut Vec<u8>) -> Result<(), OutOfMemory>
         requires { IsNamed (length (table_of self.old)) reply.now }
         ensures ok { OnOk result (into.new.items ≡ into.old.items ++ reply_text (said_by (table_of self.old) reply.now)) }

@@ -43,6 +43,7 @@ pub(crate) fn solve_join(
         (state_by (trees terms.new) parts.now base.now join.now)) }
     ensures sound { OnOk result (IsSound (trees terms.new) base.now join.now) }
     ensures named { IfOk result (IsNamed (length (trees terms.new))) }
+    ensures keeps { OnOk result (Keeps (trees terms.old) (trees terms.new)) }
 {
     if base.len() > MOST_TRIED {
         return Ok(Reply::Refused(Refusal::Small));

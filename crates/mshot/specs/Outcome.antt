@@ -54,8 +54,10 @@ Leaves SomeRefused input left = (length input ≤ most_bytes) × (left ≡ Some 
 Leaves WriteFault input left = (length input ≤ most_bytes) × (left ≡ Some [])
 -- that many bytes were taken, and one more
 Leaves TooLong input left = (most_bytes < length input) × (left ≡ Some (drop (most_bytes + 1) input))
-Leaves ReadFault input left = IsRestOf input left
-Leaves NoMemory input left = IsRestOf input left
+-- a fault of reading came before that: at most so many bytes were taken
+Leaves ReadFault input left = IsRestOf most_bytes input left
+-- memory may have run out with the byte too many at hand
+Leaves NoMemory input left = IsRestOf (most_bytes + 1) input left
 Leaves Usage input left = ⊥
 Leaves LogFault input left = ⊥
 

@@ -35,7 +35,7 @@ fn read_piece<S: Source>(
     ensures no_length { result ≢ Err InputStop.TooLong }
     ensures few { IfOk result (λ n. n ≤ length buffer.old) }
     ensures more { IfOk result (λ n. vec_len input.new ≡ vec_len input.old + n) }
-    ensures piece { (bytes : List ℕ) → S.left src.old ≡ Some bytes → ReadsPiece result bytes (S.left src.new) input.old.items input.new.items }
+    ensures piece { (bytes : List ℕ) → S.left src.old ≡ Some bytes → ReadsPiece (length buffer.old) result bytes (S.left src.new) input.old.items input.new.items }
 {
     let Ok(count) = src.take(buffer) else {
         return Err(InputStop::Fault);

@@ -30,3 +30,12 @@ returns-clause-sound c =
     (λ reply h. module_sound (core_of_calls c.args.parts.now c.args.calls.now) (trees c.args.terms.now) (trees c.ground.new.terms) c.args.base.now c.ground.new.base c.join_module.new.base c.args.join.now
     c.join_module.new.join c.in-Ok.ground_module c.mark-mark.result reply c.requires c.mark-mark.ensures c.in-Ok.ensures h)
     c.join_module.ensures
+
+pub returns-in-Err-Later-clause-keeps : goal.returns-in-Err-Later-clause-keeps
+returns-in-Err-Later-clause-keeps c = let h = rw c.in-Err-Later.field-0-is at c.in-Err-Later.ensures in h.keeps
+
+pub returns-in-Err-TooLarge-clause-keeps : goal.returns-in-Err-TooLarge-clause-keeps
+returns-in-Err-TooLarge-clause-keeps c = let h = rw c.in-Err-TooLarge.field-0-is at c.in-Err-TooLarge.ensures in h.keeps
+
+pub returns-clause-keeps : goal.returns-clause-keeps
+returns-clause-keeps c = IfOk-weaker c.join_module.result _ _ (λ reply h. c.in-Ok.ensures.keeps) c.join_module.ensures

@@ -27,3 +27,9 @@ returns-in-None-clause-step c =
     let none = rw c.in-None.is at c.in_ok-lits.ensures.same in
     none_step c.args.parts.now (trees c.args.terms.now) (trees c.numbered.new.terms) c.args.base.now c.args.join.now c.args.assume.now c.args.count c.args.limit c.new.result
     few c.requires.asked c.requires.sound c.in_ok-lits.ensures.keeps (subst (λ (assume : List Assumption). NoneMeets names assume) c.as_slice.ensures none) c.new.ensures
+
+pub returns-in-Some-clause-keeps : goal.returns-in-Some-clause-keeps
+returns-in-Some-clause-keeps c = IfOk-weaker c.list_answers.result _ _ (λ reply h. c.in_ok-lits.ensures.keeps) c.list_answers.ensures.lists
+
+pub returns-in-None-clause-keeps : goal.returns-in-None-clause-keeps
+returns-in-None-clause-keeps c = c.in_ok-lits.ensures.keeps

@@ -20,5 +20,5 @@ invariant_of-self c = kept_joined c.self.inside.state c.args.m c.add_module.new.
 pub invariant_of-self-in-Err : goal.invariant_of-self-in-Err
 invariant_of-self-in-Err c = kept_reset c.new.result c.new-in-Err.result c.new-in-Err-2.result c.new.ensures c.new-in-Err.ensures c.new-in-Err-2.ensures
 
-pub returns-in-Ok : goal.returns-in-Ok
-returns-in-Ok c = subst (λ (j : Join). IsJoined j c.args.m c.add_module.new.state) c.self.view_is c.in-Ok.ensures.joined
+pub returns-in-Ok-clause-ok : goal.returns-in-Ok-clause-ok
+returns-in-Ok-clause-ok c = subst (λ (j : Join). IsJoined j c.args.m c.add_module.new.state) c.self.view_is c.in-Ok.ensures.joined

@@ -10,4 +10,4 @@ returns-clause-ok c =
     (done
     (record { sealed = s.sealed; nodes = s.terms; texts = s.parts; base = s.base; join = s.join })
     (record { sealed = c.is_err-self-inside.result; nodes = n.terms; texts = s.parts; base = n.base; join = n.join })
-    (Ground c.args.calls.now) c.ground_calls-reply.result c.if-self.false c.is_err-self-inside.ensures.value c.ground_calls-reply.ensures.step c.ground_calls-reply.ensures.named)
+    (Ground c.args.calls.now) c.ground_calls-reply.result c.if-self.false c.is_err-self-inside.ensures.value c.ground_calls-reply.ensures.step c.ground_calls-reply.ensures.named c.ground_calls-reply.ensures.keeps)

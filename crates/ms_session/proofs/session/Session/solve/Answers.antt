@@ -10,4 +10,4 @@ returns-clause-ok c =
     (done
     (record { sealed = s.sealed; nodes = s.terms; texts = s.parts; base = s.base; join = s.join })
     (record { sealed = c.is_err-self-inside.result; nodes = n.terms; texts = s.parts; base = s.base; join = s.join })
-    (Solve c.args.count c.args.limit c.args.assume.now) c.solve_join-reply.result c.if-self.false c.is_err-self-inside.ensures.value c.solve_join-reply.ensures.step c.solve_join-reply.ensures.named)
+    (Solve c.args.count c.args.limit c.args.assume.now) c.solve_join-reply.result c.if-self.false c.is_err-self-inside.ensures.value c.solve_join-reply.ensures.step c.solve_join-reply.ensures.named c.solve_join-reply.ensures.keeps)
