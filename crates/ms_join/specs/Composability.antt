@@ -1,37 +1,29 @@
 -- Whether a module can be joined.
 -- Source: Oikarinen and Janhunen, "Modular equivalence for normal logic programs" (2006): the outputs of modules are
--- different, and no positive dependency goes round through several of them. The limit, and which refusal comes first
--- with which atoms, are this project's own.
-use Rattle.std.specs.Prelude.{ℕ, ◌≡◌, ◌≢◌, ◌+◌, ◌<◌, ◌++◌, List, Result, Ok, Err, All, AllPairs, Any, Contains, length, slice_index_or, pos, ⊤}
+-- different, and no positive dependency goes round through several of them. The limit, that no aggregate may be recursive,
+-- and which refusal comes first with which atoms, are this project's own.
+use Rattle.std.specs.Prelude.{ℕ, ◌≢◌, ◌+◌, ◌<◌, ◌++◌, List, Result, Ok, Err, All, AllPairs, Contains, length, slice_index_or, pos, ⊤}
 use Rattle.std.specs.declared.cmp.Ordering.TheVariants.{Less}
 use Rattle.ms_tree.specs.Tree.{Tree, number}
 use Rattle.ms_tree.specs.Order.{compare_trees}
 use Rattle.ms_join.specs.declared.ground_rule.GroundRule.{GroundRule}
 use Rattle.ms_join.specs.declared.ground_module.GroundModule.{GroundModule}
 use Rattle.ms_join.specs.declared.join_fault.JoinFault.{JoinFault}
-use Rattle.ms_join.specs.declared.join_fault.JoinFault.TheVariants.{TooMany, Redefined, CrossLoop, OutOfMemory}
+use Rattle.ms_join.specs.declared.join_fault.JoinFault.TheVariants.{TooMany, Redefined, CrossLoop, RecursiveAggregate, OutOfMemory}
+use Rattle.ms_join.specs.Things.{Thing, IsThing}
 use Rattle.ms_join.specs.Modules.{Join, IsOutput}
-use Rattle.ms_join.specs.Dependencies.{AreTogether}
+use Rattle.ms_join.specs.Dependencies.{AreTogether, DependsInAggregate}
 
 -- how many things a join may have
 abbrev pub most_things : ℕ
 most_things = 4000000
 
--- the body of a rule: its positive and its negated atoms
-pub record Body : Type 0 where
-  pub pos : List ℕ
-  pub neg : List ℕ
-
-abbrev pub body_of : GroundRule → Body
-body_of rule = record { pos = rule.pos; neg = rule.neg }
-
--- The things of a join are its atoms and the bodies of its rules, where equal bodies are one. There are more of them
--- than there may be.
+-- A join with so many atoms and these rules has more things than it may have.
 pub record HasTooMany (atoms : ℕ) (rules : List GroundRule) : Type 0 where
-  pub bodies : List Body
-  pub each : All (λ b. Any (λ rule. body_of rule ≡ b) rules) bodies
-  pub once : AllPairs (λ b c. b ≢ c) bodies
-  pub many : most_things < atoms + length bodies
+  pub things : List Thing
+  pub each : All (IsThing atoms rules) things
+  pub once : AllPairs (λ t u. t ≢ u) things
+  pub many : most_things < length things
 
 -- the term of an atom
 abbrev pub name_of : List Tree → ℕ → Tree
@@ -57,6 +49,12 @@ pub record IsInLoop (j : Join) (m : GroundModule) (a : ℕ) : Type 0 where
   pub head : Contains m.heads a
   pub loops : (b : ℕ) × LoopsWith j m a b
 
+-- a head that depends through an aggregate on an atom of its own component
+pub record IsRecursive (j : Join) (m : GroundModule) (a : ℕ) : Type 0 where
+  pub other : ℕ
+  pub depends : DependsInAggregate (j.rules ++ m.rules) a other
+  pub together : AreTogether (j.rules ++ m.rules) a other
+
 abbrev pub IsTooMany : Join → GroundModule → Type 0
 IsTooMany j m = HasTooMany (j.atoms + m.fresh) (j.rules ++ m.rules)
 
@@ -70,11 +68,18 @@ pub record IsFirstLoop (names : List Tree) (j : Join) (m : GroundModule) (a b : 
   pub new_head : IsLeast names (IsInLoop j m) a
   pub old : IsLeast names (LoopsWith j m a) b
 
+pub record IsFirstRecursive (names : List Tree) (j : Join) (m : GroundModule) (a : ℕ) : Type 0 where
+  pub few : ¬ IsTooMany j m
+  pub different : (h : ℕ) → ¬ IsRedefined j m h
+  pub no_loop : (h : ℕ) → ¬ IsInLoop j m h
+  pub recursive : IsLeast names (IsRecursive j m) a
+
 -- The module can be joined.
 pub record IsComposable (j : Join) (m : GroundModule) : Type 0 where
   pub few : ¬ IsTooMany j m
   pub different : (h : ℕ) → ¬ IsRedefined j m h
   pub no_loop : (h : ℕ) → ¬ IsInLoop j m h
+  pub no_recursion : (h : ℕ) → ¬ IsRecursive j m h
 
 -- What the test of a module answers, where these are the terms of all atoms.
 abbrev pub Checks : List Tree → Join → GroundModule → Result Unit JoinFault → Type 0
@@ -82,5 +87,6 @@ Checks names j m (Ok done) = IsComposable j m
 Checks names j m (Err TooMany) = IsTooMany j m
 Checks names j m (Err (Redefined a)) = IsFirstRedefined names j m a
 Checks names j m (Err (CrossLoop a b)) = IsFirstLoop names j m a b
+Checks names j m (Err (RecursiveAggregate a)) = IsFirstRecursive names j m a
 -- want of memory may come at any time
 Checks names j m (Err OutOfMemory) = ⊤

@@ -50,26 +50,35 @@ pub record IsOutput (j : Join) (a : ℕ) : Type 0 where
   pub within : a < j.atoms
   pub no_input : ¬ IsInput j a
 
--- What every join keeps: its rules and inputs are over its base, each input is there once, and no input is the head of
--- a rule.
+-- What every join keeps: its rules and inputs are over its base, the bodies of its rules are sets, each input is there
+-- once, and no input is the head of a rule.
 pub record IsJoin (j : Join) : Type 0 where
   pub over : AreRulesOver j.atoms (rules_of j)
+  pub bodies : All HasSets j.rules
   pub once : AllPairs (λ i k. i.atom ≢ k.atom) j.inputs
   pub outputs : All (λ rule. IfSome rule.head (λ h. ¬ IsInput j h)) j.rules
+
+-- the rules that a module adds
+abbrev pub added_rules : GroundModule → List GroundRule
+added_rules m = m.rules
+
+-- the value that a declared external of a module has at first
+abbrev pub declared_value : GroundModule → ℕ → Bool
+declared_value m a = false
 
 -- an input that is no head of the module stays, with its value
 abbrev pub StaysInput : Join → GroundModule → Input → Type 0
 StaysInput j m i = Contains j.inputs i × (¬ Contains m.heads i.atom)
 
--- A declared external that is new and no head becomes an input with the value false. One of the old base is an output
+-- A declared external that is new and no head becomes an input with its declared value. One of the old base is an output
 -- or an input already.
 abbrev pub BecomesInput : Join → GroundModule → Input → Type 0
-BecomesInput j m i = (j.atoms ≤ i.atom) × Contains m.externals i.atom × (¬ Contains m.heads i.atom) × (i.value ≡ Some false)
+BecomesInput j m i = (j.atoms ≤ i.atom) × Contains m.externals i.atom × (¬ Contains m.heads i.atom) × (i.value ≡ Some (declared_value m i.atom))
 
 -- The join with the module.
 pub record IsJoined (old : Join) (m : GroundModule) (new : Join) : Type 0 where
   pub atoms : new.atoms ≡ old.atoms + m.fresh
-  pub rules : new.rules ≡ old.rules ++ m.rules
+  pub rules : new.rules ≡ old.rules ++ added_rules m
   pub inputs : (i : Input) → Contains new.inputs i ↔ (StaysInput old m i ⊎ BecomesInput old m i)
 
 abbrev pub value_of : Truth → Option Bool

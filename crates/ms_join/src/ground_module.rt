@@ -1,9 +1,5 @@
+use crate::aggregate::TermIds;
 use crate::ground_rule::{AtomIds, GroundRules};
-use ms_base::seq::Seq;
-use ms_term::TermId;
-
-/// Names of terms.
-pub type TermIds = Seq<TermId>;
 
 /// What a grounding adds to a base. The new atoms have the numbers from `first_new` on, `fresh` of them, and
 /// `names` has their terms, in term order.

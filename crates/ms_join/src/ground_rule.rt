@@ -1,3 +1,4 @@
+use crate::aggregate::SignedAggs;
 use ms_base::atom_id::AtomId;
 use ms_base::seq::Seq;
 
@@ -15,14 +16,15 @@ pub enum GroundKind {
     Constraint,
 }
 
-/// A rule over the atoms of the base. Its body holds in a set that has each atom of `pos` and none
-/// of `neg`.
+/// A rule over the atoms of the base. Its body holds in a set that has each atom of `pos` and none of `neg`, and in
+/// which each signed aggregate holds.
 #[derive(Debug, Drop, PartialEq, Eq, PartialOrd, Ord)]
 pub struct GroundRule {
     pub kind: GroundKind,
     pub head: Option<AtomId>,
     pub pos: AtomIds,
     pub neg: AtomIds,
+    pub aggs: SignedAggs,
 }
 
 /// Rules, each once.
