@@ -5,4 +5,3 @@
 pub mod ground_module;
 pub mod ground_rule;
 pub mod join_fault;
-pub mod truth;
