@@ -52,12 +52,11 @@ pub record AreAnswers (Is : List ℕ → Type 0) (sets : List (List ℕ)) : Type
 abbrev pub AreAllAnswers : (List ℕ → Type 0) → List (List ℕ) → Type 0
 AreAllAnswers Is sets = (set : List ℕ) → Is set → Contains sets set
 
--- Fewer answer sets than were asked for, and all of them; or as many as were asked for.
+-- Fewer answer sets than were asked for, and all of them; or as many as were asked for; or fewer, where the search gave up.
 abbrev pub EndsAs : Ending → ℕ → (List ℕ → Type 0) → List (List ℕ) → Type 0
 EndsAs Complete asked Is sets = (length sets < asked) × AreAllAnswers Is sets
 EndsAs StillOpen asked Is sets = length sets ≡ asked
--- every set is tried, so no limit is reached
-EndsAs Cut asked Is sets = ⊥
+EndsAs Cut asked Is sets = length sets < asked
 
 -- The shown atoms of a set are those of its atoms that pass the test, in term order.
 pub record IsShownList (shows : Tree → Bool) (names : List Tree) (set : List ℕ) (shown : List Tree) : Type 0 where
