@@ -4,6 +4,7 @@
 -- with which atoms, are this project's own.
 use Rattle.std.specs.Prelude.{ℕ, ◌≡◌, ◌≢◌, ◌+◌, ◌<◌, ◌++◌, List, Result, Ok, Err, All, AllPairs, Any, Contains, length, slice_index_or, pos, ⊤}
 use Rattle.std.specs.declared.cmp.Ordering.TheVariants.{Less}
+pub use Rattle.ms_base.specs.Limits.{most_things}
 use Rattle.ms_tree.specs.Tree.{Tree, number}
 use Rattle.ms_tree.specs.Order.{compare_trees}
 use Rattle.ms_join.specs.declared.ground_rule.GroundRule.{GroundRule}
@@ -12,10 +13,6 @@ use Rattle.ms_join.specs.declared.join_fault.JoinFault.{JoinFault}
 use Rattle.ms_join.specs.declared.join_fault.JoinFault.TheVariants.{TooMany, Redefined, CrossLoop, OutOfMemory}
 use Rattle.ms_join.specs.Modules.{Join, IsOutput}
 use Rattle.ms_join.specs.Dependencies.{AreTogether}
-
--- how many things a join may have
-abbrev pub most_things : ℕ
-most_things = 4000000
 
 -- the body of a rule: its positive and its negated atoms
 pub record Body : Type 0 where
