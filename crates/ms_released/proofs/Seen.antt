@@ -7,10 +7,10 @@ use Rattle.std.proofs.lemmas.List.Elements.{All-cons, All-head, All-nil, All-tai
 use Rattle.std.proofs.lemmas.List.Sorted.{All-permutation}
 use Rattle.ms_tree.specs.Tree.{Tree}
 use Rattle.ms_grammar.specs.declared.value.Value.{Value}
-use Rattle.ms_lits.specs.declared.note.Ending.{Ending}
 use Rattle.ms_call.specs.declared.command.Assumption.{Assumption}
 use Rattle.ms_call.specs.declared.command.Call.{Call}
-use Rattle.ms_call.specs.declared.command.Command.TheVariants.{Ground, Release, Solve}
+use Rattle.ms_call.specs.declared.command.Command.{Command}
+use Rattle.ms_call.specs.declared.command.Command.TheVariants.{Add, Assign, Ground, Release, Solve}
 use Rattle.ms_join.specs.AnswerSets.{set_of}
 use Rattle.ms_join.specs.Modules.{IsInput}
 use Rattle.ms_copies.specs.Grounding.{IsHead}
@@ -18,7 +18,7 @@ use Rattle.ms_solving.specs.Grounding.{core_of_calls}
 use Rattle.ms_solving.specs.Listing.{HasAtom, IsAnswer, IsShownList, tree_of_value}
 use Rattle.ms_solving.specs.Showing.{shows_atom}
 use Rattle.ms_machine.specs.Machine.{State, IsInputNamed, Answers}
-use Rattle.ms_machine.specs.Replies.{grounded, released, solved}
+use Rattle.ms_machine.specs.Replies.{Reply, added, assigned, grounded, listing_of, no_effect, refused, released, solved}
 use Rattle.ms_released.specs.Released.{IsFalseForGood, IsTheOne, WasReleased}
 use Rattle.ms_released.proofs.Names.{at_front}
 use Rattle.ms_released.proofs.Reaching.{orderly_reached, orderly_run, orderly_step, release_is_for_good}
