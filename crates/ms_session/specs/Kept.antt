@@ -7,9 +7,9 @@ use Rattle.ms_term.specs.Terms.{trees, term_at}
 use Rattle.ms_grammar.specs.declared.value.Value.{Value}
 use Rattle.ms_core.specs.Texts.{Texts, with_given}
 use Rattle.ms_call.specs.declared.command.Command.{Command}
-use Rattle.ms_join.specs.declared.truth.Truth.{Truth}
-use Rattle.ms_join.specs.declared.truth.Effect.{Effect}
-use Rattle.ms_join.specs.declared.truth.Effect.TheVariants.{Done, NoEffect}
+use Rattle.ms_base.specs.declared.truth.Truth.{Truth}
+use Rattle.ms_base.specs.declared.truth.Effect.{Effect}
+use Rattle.ms_base.specs.declared.truth.Effect.TheVariants.{Done, NoEffect}
 use Rattle.ms_join.specs.Modules.{Join, IsInput, IsAssigned, IsReleased, value_of}
 use Rattle.ms_copies.specs.Limits.{most_symbols}
 use Rattle.ms_value.specs.Naming.{Keeps}

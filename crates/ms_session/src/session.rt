@@ -20,7 +20,7 @@ use ms_base::memory::OutOfMemory;
 use ms_base::seq::Seq;
 use ms_call::command::{Assumptions, Calls, Command};
 use ms_grammar::value::Value;
-use ms_join::truth::{Effect, Truth};
+use ms_base::truth::{Effect, Truth};
 use ms_lits::Notes;
 use ms_machine::reply::Reply;
 use ms_module::Join;
