@@ -18,9 +18,10 @@ use Rattle.ms_machine.specs.Scripts.{Run}
 use Rattle.ms_released.specs.Released.{IsReached}
 use Rattle.ms_released.proofs.Reaching.{orderly_reached, orderly_run}
 use Rattle.ms_released.proofs.Seen.{in_set, none_shown}
-use Rattle.ms_growth.specs.Growth.{IsRuledOut, cut}
-use Rattle.ms_growth.proofs.Cutting.{in_cut}
-use Rattle.ms_growth.proofs.FreeSets.{answer_is_possible}
+use Rattle.ms_growth.specs.Growth.{IsRuledOut}
+use Rattle.ms_join.specs.Possible.{cut}
+use Rattle.ms_possible.proofs.Cutting.{in_cut}
+use Rattle.ms_possible.proofs.FreeSets.{answer_is_possible}
 use Rattle.ms_growth.proofs.Running.{names_kept, past_stays}
 
 not_in_answer : (old mid : State) (items : List Item) (replies : List Reply) (t : Tree) (assume : List Assumption) (set : List ℕ) → IsReached old → IsRuledOut old t → Run old items replies mid

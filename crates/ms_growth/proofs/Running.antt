@@ -22,10 +22,10 @@ use Rattle.ms_released.specs.Released.{IsReached}
 use Rattle.ms_released.proofs.Reaching.{IsOrderly, orderly_after, orderly_start, within_names}
 use Rattle.ms_released.proofs.Staying.{input_of, joined_heads, name_stays}
 use Rattle.ms_released.proofs.Steps.{Grows, Stays, same, takes_changes}
-use Rattle.ms_growth.specs.Growth.{IsPossible, cut}
-use Rattle.ms_growth.proofs.Cutting.{IsBelow, below_more, cut_twice}
-use Rattle.ms_growth.proofs.FreeSets.{answer_is_possible}
-use Rattle.ms_growth.proofs.Joining.{cut_is_possible, join_extends}
+use Rattle.ms_join.specs.Possible.{IsPossible, cut}
+use Rattle.ms_possible.proofs.Cutting.{IsBelow, below_more, cut_twice}
+use Rattle.ms_possible.proofs.FreeSets.{answer_is_possible}
+use Rattle.ms_possible.proofs.Joining.{cut_is_possible, join_extends}
 
 -- The rules speak of the atoms of the base.
 record IsClosed (s : State) : Type 0 where

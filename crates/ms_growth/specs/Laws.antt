@@ -1,42 +1,18 @@
--- The laws of a program that grows. The first ones speak of one join and the next, and those after them of every run.
-use Rattle.std.specs.Prelude.{ℕ, ◌≡◌, ◌↔◌, Bool, IsTrue, List, Option, Some, All, Contains, slice_get}
+-- The laws of a program that grows, over every run.
+use Rattle.std.specs.Prelude.{ℕ, ◌≡◌, Bool, IsTrue, List, Some, All, Contains, slice_get}
 use Rattle.ms_tree.specs.Tree.{Tree}
 use Rattle.ms_lits.specs.declared.note.Ending.{Ending}
 use Rattle.ms_call.specs.declared.command.Assumption.{Assumption}
 use Rattle.ms_call.specs.declared.command.Command.TheVariants.{Solve}
 use Rattle.ms_call.specs.Items.{Item}
-use Rattle.ms_join.specs.declared.ground_module.GroundModule.{GroundModule}
-use Rattle.ms_join.specs.AnswerSets.{AreRulesOver, IsAnswerSet, set_of}
-use Rattle.ms_join.specs.Composability.{IsComposable}
-use Rattle.ms_join.specs.Modules.{Join, IsAssigned, IsJoined, IsReleased, IsWellFormed, rules_of}
+use Rattle.ms_join.specs.AnswerSets.{set_of}
+use Rattle.ms_join.specs.Possible.{IsPossible, cut}
 use Rattle.ms_machine.specs.Listing.{IsAnswer}
 use Rattle.ms_machine.specs.Machine.{State, Step}
 use Rattle.ms_machine.specs.Replies.{Reply, solved}
 use Rattle.ms_machine.specs.Scripts.{Run}
 use Rattle.ms_released.specs.Released.{IsReached}
-use Rattle.ms_growth.specs.Growth.{IsAnswerUnder, IsPossible, IsRuledOut, cut}
-
--- A set is possible exactly where there are values of the inputs under which it is an answer set.
-abbrev pub PossibleByValues : Type 0
-PossibleByValues = (j : Join) (set : ℕ → Bool) → IsPossible j set ↔ ((values : ℕ → Bool) × IsAnswerUnder j values set)
-
--- An answer set under the present values of the inputs is possible.
-abbrev pub AnswersArePossible : Type 0
-AnswersArePossible = (j : Join) (set : ℕ → Bool) → IsAnswerSet (rules_of j) set → IsPossible j set
-
--- What is possible for a join with a module was possible before, for the atoms that were there.
-abbrev pub JoinedKeepsThePast : Type 0
-JoinedKeepsThePast =
-    (old new : Join) (m : GroundModule) (set : ℕ → Bool) → AreRulesOver old.atoms (rules_of old) → IsWellFormed old.atoms m → IsComposable old m → IsJoined old m new
-    → IsPossible new set → IsPossible old (cut old.atoms set)
-
--- What is possible after a release was possible before it.
-abbrev pub ReleasedKeepsThePast : Type 0
-ReleasedKeepsThePast = (old new : Join) (a : ℕ) (set : ℕ → Bool) → IsReleased old a new → IsPossible new set → IsPossible old set
-
--- Assigning changes nothing of what is possible.
-abbrev pub AssignedKeepsThePossible : Type 0
-AssignedKeepsThePossible = (old new : Join) (a : ℕ) (value : Option Bool) (set : ℕ → Bool) → IsAssigned old a value new → IsPossible old set ↔ IsPossible new set
+use Rattle.ms_growth.specs.Growth.{IsRuledOut}
 
 -- What is possible in a later state was possible in each earlier one, for the atoms that were there.
 abbrev pub ThePastStays : Type 0
