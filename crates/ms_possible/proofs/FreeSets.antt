@@ -8,10 +8,9 @@ use Rattle.ms_join.specs.declared.ground_rule.GroundRule.{GroundRule}
 use Rattle.ms_join.specs.declared.ground_rule.Input.{Input}
 use Rattle.ms_join.specs.AnswerSets.{Allows, IsAnswerSet, Keeps, KeepsInput}
 use Rattle.ms_join.specs.Modules.{Join, IsAssigned, IsInput, IsReleased, rules_of}
-use Rattle.ms_released.proofs.Sets.{input_from}
-use Rattle.ms_released.proofs.Staying.{input_of}
-use Rattle.ms_growth.specs.Growth.{IsAnswerUnder, IsPossible, freed, valued}
-use Rattle.ms_growth.proofs.Lists.{All-unmap}
+use Rattle.ms_possible.proofs.Inputs.{input_from, input_of}
+use Rattle.ms_join.specs.Possible.{IsAnswerUnder, IsPossible, freed, valued}
+use Rattle.ms_possible.proofs.Lists.{All-unmap}
 
 -- The set is an answer set of the rules, where the atoms of which `Is` holds are free.
 pub record IsFreeSet (rules : List GroundRule) (Is : ℕ → Type 0) (set : ℕ → Bool) : Type 0 where

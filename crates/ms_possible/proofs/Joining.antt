@@ -8,15 +8,14 @@ use Rattle.ms_join.specs.declared.ground_module.GroundModule.{GroundModule}
 use Rattle.ms_join.specs.declared.ground_rule.GroundKind.{GroundKind}
 use Rattle.ms_join.specs.declared.ground_rule.GroundKind.TheVariants.{Normal, Choice, Constraint}
 use Rattle.ms_join.specs.declared.ground_rule.GroundRule.{GroundRule}
-use Rattle.ms_join.specs.AnswerSets.{Allows, AreRulesOver, HasHead, IsRuleOver, Keeps, has_all, has_none}
+use Rattle.ms_join.specs.AnswerSets.{Allows, AreRulesOver, HasHead, IsRuleOver, Keeps, has_all, side_holds}
 use Rattle.ms_join.specs.Composability.{IsComposable}
 use Rattle.ms_join.specs.Modules.{Join, IsInput, IsJoined, IsWellFormed, rules_of}
-use Rattle.ms_released.proofs.Sets.{input_from}
-use Rattle.ms_released.proofs.Staying.{input_of}
-use Rattle.ms_growth.specs.Growth.{IsPossible, cut}
-use Rattle.ms_growth.proofs.Cutting.{IsBelow, all_more, cut_allows, cut_keeps, from_cut, if_some, in_cut, same_none}
-use Rattle.ms_growth.proofs.FreeSets.{IsFreeSet, free_from_possible, possible_from_free}
-use Rattle.ms_growth.proofs.Lists.{All-back, All-front}
+use Rattle.ms_possible.proofs.Inputs.{input_from, input_of}
+use Rattle.ms_join.specs.Possible.{IsPossible, cut}
+use Rattle.ms_possible.proofs.Cutting.{IsBelow, all_more, cut_allows, cut_keeps, from_cut, if_some, in_cut, plain_below, same_side}
+use Rattle.ms_possible.proofs.FreeSets.{IsFreeSet, free_from_possible, possible_from_free}
+use Rattle.ms_possible.proofs.Lists.{All-back, All-front}
 
 -- the atoms of the set, but those below n only where the other set has them
 abbrev within_other : ℕ → (ℕ → Bool) → (ℕ → Bool) → ℕ → Bool
@@ -50,28 +49,28 @@ module _ (n : ℕ) (set other : ℕ → Bool) where
 
   -- a rule over the atoms below n
   old_rule : (kind : GroundKind) (rule : GroundRule) → IsBelow n rule → Keeps set set kind rule → Keeps (cut n set) other kind rule → Keeps set (within_other n set other) kind rule
-  old_rule Normal rule is keeps before = λ none all.
-      let there : IfSome rule.head (λ h. IsTrue (other h)) = before (sym (same_none n set rule.neg is.neg) ∙ none) (all_of_other rule.pos is.pos all) in
-      in_both rule.head (keeps none (all_of_set rule.pos all)) there
+  old_rule Normal rule is keeps before = λ side all.
+      let there : IfSome rule.head (λ h. IsTrue (other h)) = before (sym (same_side n set rule is) ∙ side) (all_of_other rule.pos is.pos all) in
+      in_both rule.head (keeps side (all_of_set rule.pos all)) there
   old_rule Choice rule is keeps before =
       if_some
-      (λ h. IsTrue (cut n set h) → IsTrue (has_none (cut n set) rule.neg) → IsTrue (has_all other rule.pos) → IsTrue (other h))
-      (λ h. IsTrue (set h) → IsTrue (has_none set rule.neg) → IsTrue (has_all (within_other n set other) rule.pos) → IsTrue (within_other n set other h))
+      (λ h. IsTrue (cut n set h) → IsTrue (side_holds (cut n set) rule) → IsTrue (has_all other rule.pos) → IsTrue (other h))
+      (λ h. IsTrue (set h) → IsTrue (side_holds set rule) → IsTrue (has_all (within_other n set other) rule.pos) → IsTrue (within_other n set other h))
       rule.head
-      (λ h at kept chosen none all. has h chosen (λ less. kept (in_cut n set h less chosen) (sym (same_none n set rule.neg is.neg) ∙ none) (all_of_other rule.pos is.pos all)))
+      (λ h at kept chosen side all. has h chosen (λ less. kept (in_cut n set h less chosen) (sym (same_side n set rule is) ∙ side) (all_of_other rule.pos is.pos all)))
       before
   old_rule Constraint rule is keeps before = tt
 
   -- a rule whose head is in the other set, where that is below n and in this one
   new_rule : (kind : GroundKind) (rule : GroundRule) → ((h : ℕ) → rule.head ≡ Some h → h < n → IsTrue (set h) → IsTrue (other h)) → Keeps set set kind rule → Keeps set (within_other n set other) kind rule
-  new_rule Normal rule heads keeps = λ none all.
-      if_some (λ h. IsTrue (set h)) (λ h. IsTrue (within_other n set other h)) rule.head (λ h at here. has h here (λ less. heads h at less here)) (keeps none (all_of_set rule.pos all))
+  new_rule Normal rule heads keeps = λ side all.
+      if_some (λ h. IsTrue (set h)) (λ h. IsTrue (within_other n set other h)) rule.head (λ h at here. has h here (λ less. heads h at less here)) (keeps side (all_of_set rule.pos all))
   new_rule Choice rule heads keeps =
       if_some
-      (λ h. IsTrue (set h) → IsTrue (has_none set rule.neg) → IsTrue (has_all set rule.pos) → IsTrue (set h))
-      (λ h. IsTrue (set h) → IsTrue (has_none set rule.neg) → IsTrue (has_all (within_other n set other) rule.pos) → IsTrue (within_other n set other h))
+      (λ h. IsTrue (set h) → IsTrue (side_holds set rule) → IsTrue (has_all set rule.pos) → IsTrue (set h))
+      (λ h. IsTrue (set h) → IsTrue (side_holds set rule) → IsTrue (has_all (within_other n set other) rule.pos) → IsTrue (within_other n set other h))
       rule.head
-      (λ h at kept chosen none all. has h chosen (λ less. heads h at less chosen))
+      (λ h at kept chosen side all. has h chosen (λ less. heads h at less chosen))
       keeps
   new_rule Constraint rule heads keeps = tt
 
@@ -145,7 +144,7 @@ head_below n Choice (Some a) has h at = let same : a ≡ h = cc in subst (λ b. 
 head_below n Constraint head has h at = cc
 
 below_from_over : (n : ℕ) (rule : GroundRule) → IsRuleOver n rule → IsBelow n rule
-below_from_over n rule is = record { head = head_below n rule.kind rule.head is.head; pos = is.pos; neg = is.neg }
+below_from_over n rule is = record { head = head_below n rule.kind rule.head is.head; pos = is.pos; neg = is.neg; aggs = plain_below n rule is.plain }
 
 headed_at : (heads : List ℕ) (head : Option ℕ) → IfSome head (Contains heads) → (h : ℕ) → head ≡ Some h → Contains heads h
 headed_at heads None among h at = cc
