@@ -93,10 +93,10 @@ fn guards(
 ) -> Result<Guards, OutOfMemory>
     ensures { IfOk result (λ made. IsMade (guards left.now right.now) 0 ranges.old made ranges.new) }
 {
-    let mut all = left_guard(alloc, ranges, left)?;
-    let mut more = right_guard(alloc, ranges, right)?;
+    let mut all = left_guard(alloc, ranges, left)?.into_vec();
+    let mut more = right_guard(alloc, ranges, right)?.into_vec();
     all.append(&mut more)?;
-    Ok(all)
+    Ok(Seq::from_vec(all))
 }
 
 /// The body with an aggregate of these elements.

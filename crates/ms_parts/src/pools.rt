@@ -45,12 +45,12 @@ pub(crate) fn copies(alloc: Global, term: &TextTerm) -> Result<Seq<TextTerm>, Ou
 fn copies_of_alternatives(alloc: Global, terms: &[TextTerm]) -> Result<Seq<TextTerm>, OutOfMemory>
     ensures { IfOk result (λ made. made ≡ flat_map (λ copies. copies) (map copies terms.now)) }
 {
-    let mut made = Seq::new(alloc);
+    let mut made = Vec::new(alloc);
     for term in terms {
-        let mut more = copies(alloc, term)?;
+        let mut more = copies(alloc, term)?.into_vec();
         made.append(&mut more)?;
     }
-    Ok(made)
+    Ok(Seq::from_vec(made))
 }
 
 /// The lists of arguments, one alternative after the other.
@@ -58,12 +58,12 @@ fn copies_of_alternatives(alloc: Global, terms: &[TextTerm]) -> Result<Seq<TextT
 fn copies_of_lists(alloc: Global, lists: &[TextTerms]) -> Result<Seq<Seq<TextTerm>>, OutOfMemory>
     ensures { IfOk result (λ made. made ≡ flat_map choices (map (map copies) lists.now)) }
 {
-    let mut made = Seq::new(alloc);
+    let mut made = Vec::new(alloc);
     for list in lists {
-        let mut more = copies_of_terms(alloc, list.as_slice())?;
+        let mut more = copies_of_terms(alloc, list.as_slice())?.into_vec();
         made.append(&mut more)?;
     }
-    Ok(made)
+    Ok(Seq::from_vec(made))
 }
 
 /// The lists that have a copy of each term, at its place.

@@ -154,23 +154,23 @@ fn elements(
 fn set_elements_copies(alloc: Global, elements: &[SetElement]) -> Result<SetElements, OutOfMemory>
     ensures { IfOk result (λ made. made ≡ flat_map set_element_copies elements.now) }
 {
-    let mut made = Seq::new(alloc);
+    let mut made = Vec::new(alloc);
     for element in elements {
-        let mut more = set_element_copies(alloc, element)?;
+        let mut more = set_element_copies(alloc, element)?.into_vec();
         made.append(&mut more)?;
     }
-    Ok(made)
+    Ok(Seq::from_vec(made))
 }
 
 fn elements_copies(alloc: Global, elements: &[AggElement]) -> Result<AggElements, OutOfMemory>
     ensures { IfOk result (λ made. made ≡ flat_map element_copies elements.now) }
 {
-    let mut made = Seq::new(alloc);
+    let mut made = Vec::new(alloc);
     for element in elements {
-        let mut more = element_copies(alloc, element)?;
+        let mut more = element_copies(alloc, element)?.into_vec();
         made.append(&mut more)?;
     }
-    Ok(made)
+    Ok(Seq::from_vec(made))
 }
 
 fn set_copies(alloc: Global, set: &TextSet) -> Result<Seq<TextSet>, OutOfMemory>
