@@ -1,7 +1,7 @@
 ghost use Rattle.std.specs.Prelude.{◌≤◌};
 
-use super::*;
 use ms_io::{MemSink, MemSource, NoSink};
+use mshot::{Status, mshot};
 use std::alloc::Global;
 use std::test::Fail;
 
