@@ -14,8 +14,8 @@ use Rattle.ms_tree.specs.Tree.{Tree}
 use Rattle.ms_call.specs.declared.command.Assumption.{Assumption}
 use Rattle.ms_call.specs.declared.command.Command.TheVariants.{Solve}
 use Rattle.ms_value.specs.Naming.{Keeps}
-use Rattle.ms_answers.specs.declared.meeting.AtomLit.{AtomLit}
-use Rattle.ms_answers.specs.Meeting.{IsMeetingAnswer}
+use Rattle.ms_join.specs.declared.assumption.AtomLit.{AtomLit}
+use Rattle.ms_join.specs.Assumptions.{IsMeetingAnswer}
 use Rattle.ms_core.specs.Texts.{Texts}
 use Rattle.ms_lits.specs.declared.note.Ending.{Ending}
 use Rattle.ms_lits.specs.declared.note.Ending.TheVariants.{Complete, StillOpen, Cut}
@@ -25,8 +25,9 @@ use Rattle.ms_term.specs.Terms.{term_at}
 use Rattle.ms_machine.specs.declared.reply.Reply.{Reply}
 use Rattle.ms_machine.specs.declared.reply.Reply.TheVariants.{Added, Grounded, Assigned, Released, NoEffect, Solved, Refused}
 use Rattle.ms_machine.specs.Replies.{said_by}
-use Rattle.ms_machine.specs.Machine.{Step, shows_atom}
-use Rattle.ms_machine.specs.Listing.{Meets, HasAtom, IsAnswer, EndsAs, Solves, tree_of_value}
+use Rattle.ms_machine.specs.Machine.{Answers}
+use Rattle.ms_solving.specs.Showing.{shows_atom}
+use Rattle.ms_solving.specs.Listing.{Meets, HasAtom, IsAnswer, EndsAs, Solves, tree_of_value}
 use Rattle.ms_session.specs.Kept.{IsAtomOf, IsSound, state_by}
 use Rattle.ms_session.proofs.Keeping.{names_kept, state_kept}
 use Rattle.ms_session.specs.Assuming.{MeetSame, NoneMeets, ListsAs}
@@ -159,7 +160,7 @@ solves_none shows names join assume asked some none = record {
 -- what is listed by numbers is a step of the machine
 pub lists_step : (texts : Texts) (old new : List Tree) (base : List ℕ) (join : Join) (assume : List Assumption) (lits : List AtomLit) (asked limit : ℕ) (reply : Reply)
     → length base ≤ 20 → IsSound old base join → Keeps old new → MeetSame (map (term_at old) base) assume lits → ListsAs new texts base join lits asked limit reply
-    → Step (state_by old texts base join) (Solve asked limit assume) (said_by new reply) (state_by new texts base join)
+    → Answers (state_by old texts base join) (Solve asked limit assume) (said_by new reply) (state_by new texts base join)
 lists_step texts old new base join assume lits asked limit (Solved ending count most shown) few s k same h =
     let names = names_kept old new base k s.named in (
       omega (arith, length-map base (term_at old)),
@@ -178,7 +179,7 @@ lists_step texts old new base join assume lits asked limit (Refused refusal) few
 -- so is that nothing is listed
 pub none_step : (texts : Texts) (old new : List Tree) (base : List ℕ) (join : Join) (assume : List Assumption) (asked limit : ℕ) (shown : List (List ℕ))
     → length base ≤ 20 → 1 ≤ asked → IsSound old base join → Keeps old new → NoneMeets (map (term_at old) base) assume → shown ≡ []
-    → Step (state_by old texts base join) (Solve asked limit assume) (said_by new (Solved Complete 0 limit shown)) (state_by new texts base join)
+    → Answers (state_by old texts base join) (Solve asked limit assume) (said_by new (Solved Complete 0 limit shown)) (state_by new texts base join)
 none_step texts old new base join assume asked limit shown few some s k none is = (
   omega (arith, length-map base (term_at old)),
   subst (λ (list : List (List ℕ)). Solves (shows_atom texts) (map (term_at old) base) join assume asked Complete 0 (map (map (term_at new)) list)) (sym is)

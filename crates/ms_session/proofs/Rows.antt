@@ -5,7 +5,7 @@ use Rattle.ms_tree.specs.Tree.{Tree, Trees, no_tree, tree}
 use Rattle.ms_term.specs.Terms.{term_at, terms_at, AllBelow}
 use Rattle.ms_grammar.specs.declared.value.Value.{Value}
 use Rattle.ms_value.specs.Naming.{Keeps}
-use Rattle.ms_machine.specs.Listing.{row, tree_of_value}
+use Rattle.ms_solving.specs.Listing.{row, tree_of_value}
 
 -- the terms of names, and then others
 abbrev pub before : List Tree → List ℕ → Trees → Trees

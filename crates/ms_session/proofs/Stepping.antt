@@ -17,8 +17,8 @@ use Rattle.ms_machine.specs.declared.reply.Reply.TheVariants.{Added, Grounded, A
 use Rattle.ms_machine.specs.declared.reply.Refusal.{Refusal}
 use Rattle.ms_machine.specs.declared.reply.Refusal.TheVariants.{Command, Unfinished, Syntax, Const, Later, TooLarge, TooMany, Redefined, CrossLoop, Small}
 use Rattle.ms_copies.specs.Simplifying.{ArePlain}
-use Rattle.ms_machine.specs.Grounding.{core_of_calls, Grounds}
-use Rattle.ms_machine.specs.Machine.{Step}
+use Rattle.ms_solving.specs.Grounding.{core_of_calls, Grounds}
+use Rattle.ms_machine.specs.Machine.{Answers}
 use Rattle.ms_machine.specs.Replies.{refused, said_by}
 use Rattle.ms_session.specs.Kept.{IsSound, state_by}
 use Rattle.ms_session.specs.Joining.{IsGrownBase, JoinsAs, RefusesAs}
@@ -55,7 +55,7 @@ refused_as : (texts : Texts) (calls : List Call) (old new : List Tree) (base gro
     → All (λ t. t < length old) base → IsGround (core_of_calls texts calls) old new base grown m
     → RefusesAs (map (term_at old) base ++ map (term_at new) m.names) join m refusal
     → state_by new texts after next ≡ state_by old texts base join
-    → Step (state_by old texts base join) (Ground calls) (refused refusal) (state_by new texts after next)
+    → Answers (state_by old texts base join) (Ground calls) (refused refusal) (state_by new texts after next)
 refused_as texts calls old new base grown after join next m TooMany named g why same =
     (record { names = map (term_at new) m.names; ground_module = m; grounds = grounds (core_of_calls texts calls) old new base grown m g; why = why }, same)
 refused_as texts calls old new base grown after join next m (Redefined atom) named g why same =
@@ -73,7 +73,7 @@ refused_as texts calls old new base grown after join next m Small named g why sa
 pub module_steps : (texts : Texts) (calls : List Call) (old new : List Tree) (base grown after : List ℕ) (join next : Join) (m : GroundModule) (mark : ℕ) (reply : Reply)
     → IsSound old base join → mark ≡ length base → IsGround (core_of_calls texts calls) old new base grown m
     → JoinsAs new mark m grown join after next reply
-    → Step (state_by old texts base join) (Ground calls) (said_by new reply) (state_by new texts after next)
+    → Answers (state_by old texts base join) (Ground calls) (said_by new reply) (state_by new texts after next)
 module_steps texts calls old new base grown after join next m mark (Grounded atoms rules) s at g h = record {
   names = map (term_at new) m.names;
   ground_module = m;
@@ -142,11 +142,11 @@ grown_base rules old new base grown join m mark s at g =
     }
 
 pub later_step : (texts : Texts) (calls : List Call) (old new : List Tree) (base after : List ℕ) (join : Join) → All (λ t. t < length old) base
-    → IsLater (core_of_calls texts calls) old new base after → Step (state_by old texts base join) (Ground calls) (refused Later) (state_by new texts after join)
+    → IsLater (core_of_calls texts calls) old new base after → Answers (state_by old texts base join) (Ground calls) (refused Later) (state_by new texts after join)
 later_step texts calls old new base after join named l =
     (not_plain (core_of_calls texts calls) l.aggregates, same_state old new texts base after join join l.keeps named l.same refl)
 
 pub large_step : (texts : Texts) (calls : List Call) (old new : List Tree) (base after : List ℕ) (join : Join) → All (λ t. t < length old) base
-    → TooLargeFor (core_of_calls texts calls) old new base after → Step (state_by old texts base join) (Ground calls) (refused TooLarge) (state_by new texts after join)
+    → TooLargeFor (core_of_calls texts calls) old new base after → Answers (state_by old texts base join) (Ground calls) (refused TooLarge) (state_by new texts after join)
 large_step texts calls old new base after join named r =
     (r.plain, r.large, same_state old new texts base after join join r.keeps named r.same refl)

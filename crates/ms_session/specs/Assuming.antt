@@ -5,12 +5,12 @@ use Rattle.ms_term.specs.Terms.{term_at}
 use Rattle.ms_core.specs.Texts.{Texts}
 use Rattle.ms_call.specs.declared.command.Assumption.{Assumption}
 use Rattle.ms_join.specs.Modules.{Join, rules_of}
-use Rattle.ms_answers.specs.declared.meeting.AtomLit.{AtomLit}
-use Rattle.ms_answers.specs.Meeting.{MeetsEach, IsMeetingAnswer}
+use Rattle.ms_join.specs.declared.assumption.AtomLit.{AtomLit}
+use Rattle.ms_join.specs.Assumptions.{MeetsEach, IsMeetingAnswer}
 use Rattle.ms_machine.specs.declared.reply.Reply.{Reply}
 use Rattle.ms_machine.specs.declared.reply.Reply.TheVariants.{Solved}
-use Rattle.ms_machine.specs.Listing.{Meets, AreAnswers, EndsAs, IsListing, tree_of_value}
-use Rattle.ms_machine.specs.Machine.{shows_atom}
+use Rattle.ms_solving.specs.Listing.{Meets, AreAnswers, EndsAs, IsListing, tree_of_value}
+use Rattle.ms_solving.specs.Showing.{shows_atom}
 
 -- the set meets each assumption
 abbrev pub AreMet : List Tree → List Assumption → List ℕ → Type 0

@@ -15,7 +15,7 @@ use Rattle.ms_copies.specs.Limits.{most_symbols}
 use Rattle.ms_value.specs.Naming.{Keeps}
 use Rattle.ms_machine.specs.declared.reply.Reply.{Reply as kept_reply}
 use Rattle.ms_machine.specs.declared.reply.Reply.TheVariants.{Solved}
-use Rattle.ms_machine.specs.Machine.{State, Step}
+use Rattle.ms_machine.specs.Machine.{State, Answers}
 use Rattle.ms_machine.specs.Replies.{said_by}
 
 -- A session has met want of memory or hasn't. It keeps a table of terms, the accepted texts, the names of the atoms
@@ -57,7 +57,7 @@ IsNamed size reply = ⊤
 pub record IsDone (old : Kept) (command : Command) (new : Kept) (reply : kept_reply) : Type 0 where
   pub was_open : old.sealed ≡ false
   pub is_open : new.sealed ≡ false
-  pub step : Step (state_of old) command (said_by (table_of new) reply) (state_of new)
+  pub step : Answers (state_of old) command (said_by (table_of new) reply) (state_of new)
   pub named : IsNamed (length (table_of new)) reply
   pub keeps : Keeps (table_of old) (table_of new)
 

@@ -4,7 +4,7 @@ ghost use Rattle.ms_tree.specs.Text.{tree_text};
 ghost use Rattle.ms_term.specs.Terms.{trees, term_at};
 ghost use Rattle.ms_value.specs.Naming.{Keeps};
 ghost use Rattle.ms_join.specs.Composability.{name_of};
-ghost use Rattle.ms_machine.specs.Listing.{tree_of_value};
+ghost use Rattle.ms_solving.specs.Listing.{tree_of_value};
 ghost use Rattle.ms_session.specs.Kept.{IsNumberOf};
 
 use crate::value_term::term_of;
@@ -23,10 +23,10 @@ pub(crate) fn find_atom(
     base: &AtomBase,
     atom: &Value,
 ) -> Result<Option<AtomId>, OutOfMemory>
-    requires { All (λ t. t < length (trees terms.old)) base.now }
-    ensures keeps { OnOk result (Keeps (trees terms.old) (trees terms.new)) }
+    requires { All (λ t. t < length terms.old) base.now }
+    ensures keeps { OnOk result (Keeps terms.old terms.new) }
     ensures found { IfOk result
-        (IsNumberOf (map (term_at (trees terms.old)) base.now) (tree_of_value atom.now)) }
+        (IsNumberOf (map (term_at terms.old) base.now) (tree_of_value atom.now)) }
 {
     let term = term_of(alloc, terms, atom)?;
     Ok(base.find(term))
@@ -39,9 +39,9 @@ pub(crate) fn atom_text(
     base: &AtomBase,
     a: AtomId,
 ) -> Result<Bytes, OutOfMemory>
-    requires named { All (λ t. t < length (trees terms.now)) base.now }
+    requires named { All (λ t. t < length terms.now) base.now }
     requires within { a < length base.now }
-    ensures { IfOk result (λ text. text ≡ tree_text (name_of (map (term_at (trees terms.now)) base.now) a)) }
+    ensures { IfOk result (λ text. text ≡ tree_text (name_of (map (term_at terms.now) base.now) a)) }
 {
     let mut text = Vec::new(alloc);
     terms.print(base.atom(a), &mut text)?;

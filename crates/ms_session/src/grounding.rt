@@ -3,7 +3,7 @@ ghost use Rattle.std.specs.Prelude.{◌≡◌, ◌<◌, ◌++◌, All, IfOk, OnO
 ghost use Rattle.ms_term.specs.Terms.{trees, term_at};
 ghost use Rattle.ms_value.specs.Naming.{Keeps};
 ghost use Rattle.ms_call.specs.declared.command.Command.TheVariants.{Ground};
-ghost use Rattle.ms_machine.specs.Machine.{Step};
+ghost use Rattle.ms_machine.specs.Machine.{Answers};
 ghost use Rattle.ms_machine.specs.Replies.{said_by};
 ghost use Rattle.ms_session.specs.Kept.{IsNamed, IsSound, state_by};
 ghost use Rattle.ms_session.specs.Joining.{AreAtomsOf, IsRefusalOf, IsGrownBase, JoinsAs};
@@ -31,13 +31,13 @@ pub(crate) fn ground_calls(
     join: &mut Join,
     calls: &Calls,
 ) -> Result<Reply, OutOfMemory>
-    requires { IsSound (trees terms.old) base.old join.old }
-    ensures step { IfOk result (λ reply. Step (state_by (trees terms.old) parts.now base.old join.old)
-        (Ground calls.now) (said_by (trees terms.new) reply)
-        (state_by (trees terms.new) parts.now base.new join.new)) }
-    ensures sound { OnOk result (IsSound (trees terms.new) base.new join.new) }
-    ensures named { IfOk result (IsNamed (length (trees terms.new))) }
-    ensures keeps { OnOk result (Keeps (trees terms.old) (trees terms.new)) }
+    requires { IsSound terms.old base.old join.old }
+    ensures step { IfOk result (λ reply. Answers (state_by terms.old parts.now base.old join.old)
+        (Ground calls.now) (said_by terms.new reply)
+        (state_by terms.new parts.now base.new join.new)) }
+    ensures sound { OnOk result (IsSound terms.new base.new join.new) }
+    ensures named { IfOk result (IsNamed (length terms.new)) }
+    ensures keeps { OnOk result (Keeps terms.old terms.new) }
 {
     let mark = base.mark();
     let ground_module = match ground(alloc, base, terms, parts, calls) {
@@ -59,8 +59,8 @@ fn join_module(
     join: &mut Join,
     ground_module: GroundModule,
 ) -> Result<Reply, OutOfMemory>
-    requires { IsGrownBase (trees terms.now) mark base.old join.old ground_module }
-    ensures { IfOk result (JoinsAs (trees terms.now) mark ground_module base.old join.old base.new join.new) }
+    requires { IsGrownBase terms.now mark base.old join.old ground_module }
+    ensures { IfOk result (JoinsAs terms.now mark ground_module base.old join.old base.new join.new) }
 {
     match join.check(alloc, terms, base, &ground_module) {
         Ok(()) => {
@@ -84,9 +84,9 @@ fn refusal_of(
     base: &AtomBase,
     fault: JoinFault,
 ) -> Result<Refusal, OutOfMemory>
-    requires named { All (λ t. t < length (trees terms.now)) base.now }
+    requires named { All (λ t. t < length terms.now) base.now }
     requires within { AreAtomsOf (length base.now) fault }
-    ensures { IfOk result (IsRefusalOf (map (term_at (trees terms.now)) base.now) fault) }
+    ensures { IfOk result (IsRefusalOf (map (term_at terms.now) base.now) fault) }
 {
     match fault {
         JoinFault::TooMany => Ok(Refusal::TooMany),

@@ -14,8 +14,8 @@ use ms_term::Terms;
 
 /// Appends the text of a reply whose names are in the table. Where there is no memory for it nothing was appended.
 pub(crate) fn print(terms: &Terms, reply: &Reply, into: &mut Vec<u8>) -> Result<(), OutOfMemory>
-    requires { IsNamed (length (trees terms.now)) reply.now }
-    ensures ok { OnOk result (into.new.items ≡ into.old.items ++ reply_text (said_by (trees terms.now) reply.now)) }
+    requires { IsNamed (length terms.now) reply.now }
+    ensures ok { OnOk result (into.new.items ≡ into.old.items ++ reply_text (said_by terms.now reply.now)) }
     ensures err { OnErr result (into.new.items ≡ into.old.items) }
 {
     match reply {
@@ -137,9 +137,9 @@ fn print_solved(
     shown: &Shown,
     into: &mut Vec<u8>,
 ) -> Result<(), OutOfMemory>
-    requires { All (All (λ t. t < length (trees terms.now))) shown.now }
+    requires { All (All (λ t. t < length terms.now)) shown.now }
     ensures ok { OnOk result (into.new.items
-        ≡ into.old.items ++ reply_text (said_by (trees terms.now) (Solved ending count limit shown.now))) }
+        ≡ into.old.items ++ reply_text (said_by terms.now (Solved ending count limit shown.now))) }
     ensures err { OnErr result (into.new.items ≡ into.old.items) }
 {
     let mut text = Vec::new(*into.allocator());

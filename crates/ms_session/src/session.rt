@@ -3,7 +3,7 @@ ghost use Rattle.std.specs.Prelude.{◌≡◌, ◌≤◌, ℕ, [], false, true, 
 ghost use Rattle.std.specs.Option.{option_copied};
 ghost use Rattle.ms_core.specs.Texts.{constant};
 ghost use Rattle.ms_call.specs.declared.command.Command.TheVariants.{Add, Assign, Ground, Release, Solve};
-ghost use Rattle.ms_machine.specs.Listing.{tree_of_value};
+ghost use Rattle.ms_solving.specs.Listing.{tree_of_value};
 ghost use Rattle.ms_machine.specs.Machine.{start};
 ghost use Rattle.ms_machine.specs.Replies.{reply_text, said_by};
 ghost use Rattle.ms_session.specs.Kept.{Assigns, IsDone, IsFound, IsGiven, IsNamed, IsSealed, Releases, state_of, table_of};
@@ -57,7 +57,7 @@ impl Model for Session {
 
     ghost view = { λ s. record { sealed = s.sealed; nodes = s.terms; texts = s.parts; base = s.base; join = s.join } };
 
-    ghost invariant = { λ s. (s.notes ≡ []) × (s.sealed ≡ false → IsSound (trees s.terms) s.base s.join) };
+    ghost invariant = { λ s. (s.notes ≡ []) × (s.sealed ≡ false → IsSound s.terms s.base s.join) };
 }
 
 impl Session {

@@ -3,7 +3,7 @@ ghost use Rattle.std.specs.Prelude.{◌≡◌, ◌<◌, ◌≤◌, All, IfOk, On
 ghost use Rattle.ms_term.specs.Terms.{trees, term_at};
 ghost use Rattle.ms_value.specs.Naming.{Keeps};
 ghost use Rattle.ms_call.specs.declared.command.Command.TheVariants.{Solve};
-ghost use Rattle.ms_machine.specs.Machine.{Step};
+ghost use Rattle.ms_machine.specs.Machine.{Answers};
 ghost use Rattle.ms_machine.specs.Replies.{said_by};
 ghost use Rattle.ms_session.specs.Kept.{IsNamed, IsSound, state_by};
 ghost use Rattle.ms_session.specs.Assuming.{ListsAs, MeetSame, NoneMeets};
@@ -36,14 +36,14 @@ pub(crate) fn solve_join(
     limit: u64,
     assume: &Assumptions,
 ) -> Result<Reply, OutOfMemory>
-    requires sound { IsSound (trees terms.old) base.now join.now }
+    requires sound { IsSound terms.old base.now join.now }
     requires asked { 1 ≤ count }
-    ensures step { IfOk result (λ reply. Step (state_by (trees terms.old) parts.now base.now join.now)
-        (Solve count limit assume.now) (said_by (trees terms.new) reply)
-        (state_by (trees terms.new) parts.now base.now join.now)) }
-    ensures sound { OnOk result (IsSound (trees terms.new) base.now join.now) }
-    ensures named { IfOk result (IsNamed (length (trees terms.new))) }
-    ensures keeps { OnOk result (Keeps (trees terms.old) (trees terms.new)) }
+    ensures step { IfOk result (λ reply. Answers (state_by terms.old parts.now base.now join.now)
+        (Solve count limit assume.now) (said_by terms.new reply)
+        (state_by terms.new parts.now base.now join.now)) }
+    ensures sound { OnOk result (IsSound terms.new base.now join.now) }
+    ensures named { IfOk result (IsNamed (length terms.new)) }
+    ensures keeps { OnOk result (Keeps terms.old terms.new) }
 {
     if base.len() > MOST_TRIED {
         return Ok(Reply::Refused(Refusal::Small));
@@ -76,11 +76,11 @@ fn numbered(
     base: &AtomBase,
     assume: &[Assumption],
 ) -> Result<Option<Vec<AtomLit>>, OutOfMemory>
-    requires { All (λ t. t < length (trees terms.old)) base.now }
-    ensures keeps { OnOk result (Keeps (trees terms.old) (trees terms.new)) }
+    requires { All (λ t. t < length terms.old) base.now }
+    ensures keeps { OnOk result (Keeps terms.old terms.new) }
     ensures same { IfOk result (λ lits. MatchOption lits
-        (NoneMeets (map (term_at (trees terms.old)) base.now) assume.now)
-        (λ ls. MeetSame (map (term_at (trees terms.old)) base.now) assume.now ls.items)) }
+        (NoneMeets (map (term_at terms.old) base.now) assume.now)
+        (λ ls. MeetSame (map (term_at terms.old) base.now) assume.now ls.items)) }
 {
     let mut lits = Vec::new(alloc);
     for literal in assume {
@@ -110,9 +110,9 @@ fn list_answers(
     limit: u64,
     lits: &[AtomLit],
 ) -> Result<Reply, OutOfMemory>
-    requires { IsSound (trees terms.now) base.now join.now }
-    ensures lists { IfOk result (ListsAs (trees terms.now) parts.now base.now join.now lits.now count limit) }
-    ensures named { IfOk result (IsNamed (length (trees terms.now))) }
+    requires { IsSound terms.now base.now join.now }
+    ensures lists { IfOk result (ListsAs terms.now parts.now base.now join.now lits.now count limit) }
+    ensures named { IfOk result (IsNamed (length terms.now)) }
 {
     let found = answer_sets(alloc, base.len(), join.rules(), lits, count)?;
     let shown = listing(alloc, terms, base, parts, found.sets.as_slice())?;

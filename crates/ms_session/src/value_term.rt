@@ -1,7 +1,7 @@
 // The terms that values are, under their names in a table.
 ghost use Rattle.std.specs.Prelude.{IfOk, map};
 ghost use Rattle.ms_term.specs.Terms.{trees};
-ghost use Rattle.ms_machine.specs.Listing.{row, tree_of_value};
+ghost use Rattle.ms_solving.specs.Listing.{row, tree_of_value};
 ghost use Rattle.ms_session.specs.Naming.{AreNamesOf, IsNameOf};
 
 use ms_base::memory::OutOfMemory;
@@ -17,7 +17,7 @@ pub(crate) fn term_of(
     terms: &mut Terms,
     value: &Value,
 ) -> Result<TermId, OutOfMemory>
-    ensures { IfOk result (IsNameOf (trees terms.old) (trees terms.new) (tree_of_value value.now)) }
+    ensures { IfOk result (IsNameOf terms.old terms.new (tree_of_value value.now)) }
 {
     match value {
         Value::Number(n) => terms.number(*n),
@@ -32,7 +32,7 @@ pub(crate) fn term_of(
 /// The names of the terms that values are.
 #[cycle(term_of)]
 fn terms_of(alloc: Global, terms: &mut Terms, values: &[Value]) -> Result<Vec<TermId>, OutOfMemory>
-    ensures { IfOk result (AreNamesOf (trees terms.old) (trees terms.new) (row (map tree_of_value values.now))) }
+    ensures { IfOk result (AreNamesOf terms.old terms.new (row (map tree_of_value values.now))) }
 {
     let mut names = Vec::with_capacity(alloc, values.len())?;
     for value in values {

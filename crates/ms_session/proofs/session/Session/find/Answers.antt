@@ -1,5 +1,5 @@
 use Rattle.std.proofs.Common.{refl}
-use Rattle.ms_machine.specs.Listing.{tree_of_value}
+use Rattle.ms_solving.specs.Listing.{tree_of_value}
 use Rattle.ms_session.proofs.Found.{found_by}
 use Rattle.ms_session.proofs.session.Session.find.Goals as goal
 
