@@ -1,7 +1,6 @@
 // The texts of replies.
 ghost use Rattle.std.specs.Prelude.{◌≡◌, ◌++◌, ◌∷◌, ◌<◌, All, codes, OnOk, OnErr, length};
 ghost use Rattle.std.specs.Fmt.{decimal};
-ghost use Rattle.ms_term.specs.Terms.{trees};
 ghost use Rattle.ms_machine.specs.Replies.{ending_line, line, refusal_line, reply_text, said_by};
 ghost use Rattle.ms_machine.specs.declared.reply.Reply.TheVariants.{Solved};
 ghost use Rattle.ms_machine.specs.Replies.{grounded};
@@ -72,7 +71,10 @@ fn print_refusal(refusal: &Refusal, into: &mut Vec<u8>) -> Result<(), OutOfMemor
         Refusal::Later => put(b"refused later\n", into),
         Refusal::TooLarge => put(b"refused too-large\n", into),
         Refusal::TooMany => put(b"refused too-many\n", into),
-        Refusal::Redefined { atom } => print_redefined(atom.as_slice(), into),
+        Refusal::Redefined { atom } => print_named(b"refused redefined ", atom.as_slice(), into),
+        Refusal::RecursiveAggregate { atom } => {
+            print_named(b"refused aggregate ", atom.as_slice(), into)
+        }
         Refusal::CrossLoop { new_head, old } => {
             print_loop(new_head.as_slice(), old.as_slice(), into)
         }
@@ -80,11 +82,12 @@ fn print_refusal(refusal: &Refusal, into: &mut Vec<u8>) -> Result<(), OutOfMemor
     }
 }
 
-fn print_redefined(atom: &[u8], into: &mut Vec<u8>) -> Result<(), OutOfMemory>
-    ensures ok { OnOk result (into.new.items ≡ into.old.items ++ line (codes "refused redefined " ++ atom.now)) }
+/// Appends a line that ends in an atom.
+fn print_named(words: &[u8], atom: &[u8], into: &mut Vec<u8>) -> Result<(), OutOfMemory>
+    ensures ok { OnOk result (into.new.items ≡ into.old.items ++ line (words.now ++ atom.now)) }
     ensures err { OnErr result (into.new.items ≡ into.old.items) }
 {
-    let mut text = b"refused redefined ".to_vec(*into.allocator())?;
+    let mut text = words.to_vec(*into.allocator())?;
     text.extend_from_slice(atom)?;
     text.push(b'\n')?;
     put(text.as_slice(), into)
