@@ -1,0 +1,3 @@
+pub mod Assignments
+pub mod Stages
+pub mod Soundness

@@ -1,0 +1,99 @@
+-- Stages, one line after another.
+use Rattle.std.proofs.Common.{ℕ, ◌≡◌, ◌∙◌, ◌<◌, ◌≤◌, ◌+◌, ◌⊎◌, List, [], ◌∷◌, ◌++◌, length, get_or, zero, suc, Option, Some, None, inl, inr, sym, subst, ap, refl, arith, append_assoc, append-nil}
+use Rattle.std.specs.Prelude.{Contains, filter_map}
+use Rattle.std.proofs.lemmas.List.Elements.{Contains-append_left, Contains-append_cases, Contains-push, filter_map-append}
+use Rattle.std.proofs.lemmas.Slice.Eq.{bytes_eq-Decides}
+use Rattle.std.specs.Str.{bytes_eq}
+use Rattle.std.proofs.lemmas.Bool.{cases_Bool, false≢true}
+use Rattle.ms_lits.specs.declared.note.Note.{Note}
+use Rattle.ms_lits.specs.declared.note.Note.TheVariants.{Atom, Body, Tuple, Aggregate, Start, Theory, Kept, Temporary, Answer, Finish}
+use Rattle.ms_lits.specs.Literals.{Nogood}
+use Rattle.ms_lawful.specs.Problems.{Problem, true_atoms}
+use Rattle.ms_lawful.specs.Lines.{Stage, AreLines, IsLine, MayFollow, InFullStore, InStore, IsFresh, IsOfAnswer, Stands, after, answer_of, answers_in, first_stage, nogood_of, nogoods_in, of_answer, of_completion, of_theory, kept_before, kept_now, stage_after, standing, stored, temporary}
+
+pub lines_after : (stage : Stage) (notes : List Note) → (stage_after stage notes).lines ≡ stage.lines ++ notes
+lines_after stage [] = sym (append-nil stage.lines)
+lines_after stage (note ∷ notes) = lines_after (after stage note) notes ∙ append_assoc stage.lines (note ∷ []) notes
+
+pub stage_after-append : (stage : Stage) (before notes : List Note) → stage_after stage (before ++ notes) ≡ stage_after (stage_after stage before) notes
+stage_after-append stage [] notes = refl
+stage_after-append stage (note ∷ before) notes = stage_after-append (after stage note) before notes
+
+-- Lawful lines are lawful ones and then others, and the other way round.
+pub lines_parts : (problem : Problem) (stage : Stage) (before notes : List Note) → AreLines problem stage (before ++ notes) → AreLines problem stage before × AreLines problem (stage_after stage before) notes
+lines_parts problem stage [] notes lawful = (tt, lawful)
+lines_parts problem stage (note ∷ before) notes lawful =
+    let rest = lines_parts problem (after stage note) before notes lawful.1 in
+    ((lawful.0, rest.0), rest.1)
+
+pub lines_append : (problem : Problem) (stage : Stage) (before notes : List Note) → AreLines problem stage before → AreLines problem (stage_after stage before) notes → AreLines problem stage (before ++ notes)
+lines_append problem stage [] notes first second = second
+lines_append problem stage (note ∷ before) notes first second = (first.0, lines_append problem (after stage note) before notes first.1 second)
+
+-- One more lawful line.
+pub lines_push : (problem : Problem) (stage : Stage) (before : List Note) (note : Note) → AreLines problem stage before → IsLine problem (stage_after stage before) note → AreLines problem stage (before ++ note ∷ [])
+lines_push problem stage before note first line = lines_append problem stage before (note ∷ []) first (line, tt)
+
+-- What stands or is stored goes on doing so.
+pub store_more : (problem : Problem) (lines more : List Note) (nogood : Nogood) → InStore problem lines nogood → InStore problem (lines ++ more) nogood
+store_more problem lines more nogood (of_completion base) = of_completion base
+store_more problem lines more nogood (kept_before among) = kept_before among
+store_more problem lines more nogood (of_theory among) = of_theory (Contains-append_left lines more (Theory nogood) among)
+store_more problem lines more nogood (kept_now among) = kept_now (Contains-append_left lines more (Kept nogood) among)
+
+pub stands_more : (problem : Problem) (lines more : List Note) (nogood : Nogood) → Stands problem lines nogood → Stands problem (lines ++ more) nogood
+stands_more problem lines more nogood (stored among) = stored (store_more problem lines more nogood among)
+stands_more problem lines more nogood (temporary among) = temporary (Contains-append_left lines more (Temporary nogood) among)
+
+pub full_more : (problem : Problem) (lines more : List Note) (nogood : Nogood) → InFullStore problem lines nogood → InFullStore problem (lines ++ more) nogood
+full_more problem lines more nogood (standing among) = standing (stands_more problem lines more nogood among)
+full_more problem lines more nogood (of_answer answer) = of_answer (record {
+  truth = answer.truth;
+  answered = Contains-append_left lines more (Answer (true_atoms problem answer.truth)) answer.answered;
+  signs = answer.signs;
+})
+
+some_same : (a b : Nogood) → Some a ≡ Some b → a ≡ b
+some_same a b e = cc
+
+none_some : (a : Nogood) → None ≡ Some a → ⊥
+none_some a e = cc
+
+-- Each line with a nogood is fresh.
+pub line_fresh : (problem : Problem) (lines : List Note) (owed : Option (List ℕ)) (note : Note) (nogood : Nogood) → MayFollow problem lines owed note → nogood_of note ≡ Some nogood → IsFresh problem lines nogood
+line_fresh problem lines (Some answer) (Temporary n) nogood line is = subst (IsFresh problem lines) (some_same n nogood is) line.fresh
+line_fresh problem lines None (Theory n) nogood line is = subst (IsFresh problem lines) (some_same n nogood is) line.fresh
+line_fresh problem lines None (Kept n) nogood line is = subst (IsFresh problem lines) (some_same n nogood is) line.fresh
+line_fresh problem lines None (Temporary n) nogood line is = subst (IsFresh problem lines) (some_same n nogood is) line.fresh
+line_fresh problem lines None (Answer answer) nogood line is = absurd (none_some nogood is)
+line_fresh problem lines owed note nogood line is = absurd line
+
+same_answer : (note : Note) (answer : List ℕ) → (note ≡ Answer answer) ⊎ (note ≡ Answer answer → ⊥)
+same_answer (Answer other) answer =
+    elim (cases_Bool (bytes_eq other answer)) [
+      | inl same ↦ inl (ap Answer ((bytes_eq-Decides other answer).0 same))
+      | inr differ ↦ inr (λ e. let inside : other ≡ answer = cc in false≢true (sym differ ∙ (bytes_eq-Decides other answer).1 inside))
+    ]
+same_answer note answer = inr (λ e. cc)
+
+Contains-cons : {X : Type 0} → (x y : X) (xs : List X) → Contains xs y → Contains (x ∷ xs) y
+Contains-cons x y xs (k, h, e) = (suc k, omega arith, e)
+
+Contains-here : {X : Type 0} → (x y : X) (xs : List X) → x ≡ y → Contains (x ∷ xs) y
+Contains-here x y xs e = (0, omega arith, e)
+
+Contains-cons_cases : {X : Type 0} → (x y : X) (xs : List X) → Contains (x ∷ xs) y → (x ≡ y) ⊎ Contains xs y
+Contains-cons_cases x y xs (zero, h, e) = inl e
+Contains-cons_cases x y xs (suc k, h, e) = inr (k, omega arith, e)
+
+-- Whether an answer is among the lines can be decided.
+pub answered_or_not : (lines : List Note) (answer : List ℕ) → Contains lines (Answer answer) ⊎ (Contains lines (Answer answer) → ⊥)
+answered_or_not [] answer = inr (λ c. absurd (let h : c.0 < 0 = c.1 in omega arith))
+answered_or_not (note ∷ lines) answer =
+    elim (same_answer note answer) [
+      | inl same ↦ inl (Contains-here note (Answer answer) lines same)
+      | inr differ ↦ elim (answered_or_not lines answer) [
+        | inl among ↦ inl (Contains-cons note (Answer answer) lines among)
+        | inr none ↦ inr (λ c. elim (Contains-cons_cases note (Answer answer) lines c) [ inl e ↦ differ e | inr among ↦ none among ])
+      ]
+    ]
