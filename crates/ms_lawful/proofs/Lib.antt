@@ -1,3 +1,8 @@
+pub mod Lists
 pub mod Assignments
 pub mod Stages
 pub mod Soundness
+pub mod Apart
+pub mod Nogoods
+pub mod Counts
+pub mod Parts

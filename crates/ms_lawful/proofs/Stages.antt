@@ -8,6 +8,7 @@ use Rattle.std.proofs.lemmas.Bool.{cases_Bool, false≢true}
 use Rattle.ms_lits.specs.declared.note.Note.{Note}
 use Rattle.ms_lits.specs.declared.note.Note.TheVariants.{Atom, Body, Tuple, Aggregate, Start, Theory, Kept, Temporary, Answer, Finish}
 use Rattle.ms_lits.specs.Literals.{Nogood}
+use Rattle.ms_lawful.proofs.Lists.{Contains-cons, Contains-cons_cases, Contains-here}
 use Rattle.ms_lawful.specs.Problems.{Problem, true_atoms}
 use Rattle.ms_lawful.specs.Lines.{Stage, AreLines, IsLine, MayFollow, InFullStore, InStore, IsFresh, IsOfAnswer, Stands, after, answer_of, answers_in, first_stage, nogood_of, nogoods_in, of_answer, of_completion, of_theory, kept_before, kept_now, stage_after, standing, stored, temporary}
 
@@ -75,16 +76,6 @@ same_answer (Answer other) answer =
       | inr differ ↦ inr (λ e. let inside : other ≡ answer = cc in false≢true (sym differ ∙ (bytes_eq-Decides other answer).1 inside))
     ]
 same_answer note answer = inr (λ e. cc)
-
-Contains-cons : {X : Type 0} → (x y : X) (xs : List X) → Contains xs y → Contains (x ∷ xs) y
-Contains-cons x y xs (k, h, e) = (suc k, omega arith, e)
-
-Contains-here : {X : Type 0} → (x y : X) (xs : List X) → x ≡ y → Contains (x ∷ xs) y
-Contains-here x y xs e = (0, omega arith, e)
-
-Contains-cons_cases : {X : Type 0} → (x y : X) (xs : List X) → Contains (x ∷ xs) y → (x ≡ y) ⊎ Contains xs y
-Contains-cons_cases x y xs (zero, h, e) = inl e
-Contains-cons_cases x y xs (suc k, h, e) = inr (k, omega arith, e)
 
 -- Whether an answer is among the lines can be decided.
 pub answered_or_not : (lines : List Note) (answer : List ℕ) → Contains lines (Answer answer) ⊎ (Contains lines (Answer answer) → ⊥)

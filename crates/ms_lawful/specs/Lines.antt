@@ -3,7 +3,7 @@
 -- Source: that learned nogoods are checked by unit closure is after Goldberg and Novikov, "Verification of proofs of
 -- unsatisfiability for CNF formulas" (2003); answers whose nogoods bind the rest of a solve alone, and the rules that
 -- no line repeats what stands, are this project's.
-use Rattle.std.specs.Prelude.{ℕ, ◌≡◌, ◌≢◌, ◌+◌, ◌<◌, ◌≤◌, ◌⊎◌, ◌++◌, Bool, true, IsTrue, List, [], ◌∷◌, length, Option, Some, None, All, AllPairs, Contains, filter_map}
+use Rattle.std.specs.Prelude.{ℕ, ◌≡◌, ◌≢◌, ◌+◌, ◌<◌, ◌≤◌, ◌⊎◌, ◌++◌, Bool, true, false, IsTrue, List, [], ◌∷◌, length, Option, Some, None, All, AllPairs, Contains, filter, filter_map}
 use Rattle.ms_lits.specs.declared.lit.Lit.{Lit}
 use Rattle.ms_lits.specs.declared.note.Note.{Note}
 use Rattle.ms_lits.specs.declared.note.Note.TheVariants.{Theory, Kept, Temporary, Answer}
@@ -61,6 +61,15 @@ nogood_of note = None
 
 abbrev pub nogoods_in : List Note → List Nogood
 nogoods_in lines = filter_map nogood_of lines
+
+-- the line has a nogood that was learned
+abbrev pub is_learned : Note → Bool
+is_learned (Kept nogood) = true
+is_learned (Temporary nogood) = true
+is_learned note = false
+
+abbrev pub learned_in : List Note → List Note
+learned_in lines = filter is_learned lines
 
 -- The store: completion nogoods, those kept from earlier solves, and those of this solve that aren't temporary.
 pub data InStore (problem : Problem) (lines : List Note) (nogood : Nogood) : Type 0 where
