@@ -5,4 +5,5 @@ pub mod Soundness
 pub mod Apart
 pub mod Nogoods
 pub mod Counts
+pub mod Listed
 pub mod Parts
