@@ -4,10 +4,11 @@ use Rattle.std.specs.Prelude.{All, AllPairs, Contains}
 use Rattle.std.proofs.lemmas.List.Elements.{filter-append, filter_map-append}
 use Rattle.ms_lits.specs.declared.note.Note.{Note}
 use Rattle.ms_lits.specs.declared.note.Note.TheVariants.{Atom, Body, Tuple, Aggregate, Start, Theory, Kept, Temporary, Answer, Finish}
+use Rattle.ms_lits.specs.declared.note.Ending.{Ending}
 use Rattle.ms_lits.specs.declared.note.Ending.TheVariants.{Cut}
 use Rattle.ms_lits.specs.Literals.{Nogood}
 use Rattle.ms_lawful.specs.Problems.{Problem}
-use Rattle.ms_lawful.specs.Lines.{Stage, AreLines, EndsRun, IsLine, MayFollow, after, answer_of, answers_in, first_stage, is_learned, learned_in, nogood_of, nogoods_in, owed_after, spent_by, spent_for, stage_after}
+use Rattle.ms_lawful.specs.Lines.{Stage, AreLines, EndsFor, EndsRun, IsLine, MayFollow, after, answer_of, answers_in, first_stage, is_learned, learned_in, nogood_of, nogoods_in, owed_after, spent_by, spent_for, stage_after}
 use Rattle.ms_lawful.proofs.Apart.{apart_differ, lines_apart}
 use Rattle.ms_lawful.proofs.Nogoods.{few_nogoods}
 use Rattle.ms_lawful.proofs.Stages.{lines_after}
@@ -77,3 +78,6 @@ pub no_cut : (problem : Problem) (notes : List Note) → AreLines problem first_
 no_cut problem notes lawful great ends =
     let cut : (stage_after first_stage notes).spent ≡ problem.limit = ends.reason.1 in
     omega (arith, spent_within notes, lines_few problem notes lawful)
+
+pub cut_spent : (problem : Problem) (notes : List Note) (ending : Ending) → ending ≡ Cut → EndsRun problem (stage_after first_stage notes) ending → (stage_after first_stage notes).spent ≡ problem.limit
+cut_spent problem notes ending cut ends = (subst (EndsFor problem (stage_after first_stage notes)) cut ends.reason).1

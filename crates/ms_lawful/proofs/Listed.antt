@@ -2,15 +2,15 @@
 use Rattle.std.proofs.Common.{ℕ, ◌≡◌, ◌≢◌, ◌∙◌, ◌<◌, ◌≤◌, ◌+◌, ◌⊎◌, Bool, List, [], ◌∷◌, ◌++◌, length, get_or, zero, suc, Option, Some, None, inl, inr, sym, subst, ap, refl, arith, append-nil}
 use Rattle.std.specs.Prelude.{All, AllPairs, Contains, filter_map}
 use Rattle.std.specs.List.{cons_option}
-use Rattle.std.proofs.lemmas.List.Elements.{All-push, Contains-append_left, Contains-get_or, filter_map-append}
+use Rattle.std.proofs.lemmas.List.Elements.{All-push, Contains-append_left, Contains-get_or, Contains-push, filter_map-append}
 use Rattle.std.proofs.lemmas.List.Quantifiers.{all_pairs_push}
 use Rattle.ms_lits.specs.declared.note.Note.{Note}
 use Rattle.ms_lits.specs.declared.note.Note.TheVariants.{Atom, Body, Tuple, Aggregate, Start, Theory, Kept, Temporary, Answer, Finish}
 use Rattle.ms_lits.specs.declared.note.Ending.{Ending}
 use Rattle.ms_lits.specs.Literals.{Nogood}
 use Rattle.ms_lawful.specs.Problems.{Problem, HasNogood, IsAdmitted, true_atoms}
-use Rattle.ms_lawful.specs.Lines.{Stage, AreLines, EndsRun, IsAnswerLine, IsLine, MayFollow, after, answer_of, answers_in, first_stage, stage_after}
-use Rattle.ms_lawful.proofs.Lists.{Contains-filter_map, filter_map-Contains}
+use Rattle.ms_lawful.specs.Lines.{Stage, AreLines, EndsRun, IsAnswerLine, IsLine, MayFollow, after, answer_of, answers_in, first_stage, owed_after, stage_after}
+use Rattle.ms_lawful.proofs.Lists.{Contains-filter_map, Contains-none, filter_map-Contains}
 use Rattle.ms_lawful.proofs.Stages.{lines_after, lines_parts, stage_after-append}
 
 -- The answers so far are to be listed, and differ.
@@ -89,11 +89,29 @@ own_follows problem before notes answer lawful nothing =
     own_next problem (after (stage_after first_stage before) (Answer answer)) answer notes refl rest.1
       (ap (λ s. s.owed) (sym (stage_after-append first_stage before (Answer answer ∷ notes))) ∙ nothing)
 
--- A temporary line stands after an answer.
-temporary_answered : (problem : Problem) (lines : List Note) (owed : Option (List ℕ)) (nogood : Nogood) → ((answer : List ℕ) → owed ≡ Some answer → answers_in lines ≢ []) → MayFollow problem lines owed (Temporary nogood) → answers_in lines ≢ []
-temporary_answered problem lines None nogood owed line = line.answered
-temporary_answered problem lines (Some answer) nogood owed line = owed answer refl
-
 -- where a line is owed there was an answer
 abbrev IsOwedRightly : Stage → Type 0
 IsOwedRightly stage = (answer : List ℕ) → stage.owed ≡ Some answer → Contains stage.lines (Answer answer)
+
+owed_line : (lines : List Note) (note : Note) (answer : List ℕ) → owed_after note ≡ Some answer → Contains (lines ++ note ∷ []) (Answer answer)
+owed_line lines (Answer a) answer is = let same : a ≡ answer = cc in subst (λ (b : List ℕ). Contains (lines ++ Answer a ∷ []) (Answer b)) same (Contains-push lines (Answer a))
+owed_line lines note answer is = let clash : ⊥ = cc in absurd clash
+
+rightly_after : (stage : Stage) (notes : List Note) → IsOwedRightly stage → IsOwedRightly (stage_after stage notes)
+rightly_after stage [] before = before
+rightly_after stage (note ∷ notes) before = rightly_after (after stage note) notes (λ answer is. owed_line stage.lines note answer is)
+
+some_answer : (lines : List Note) (answer : List ℕ) → Contains lines (Answer answer) → answers_in lines ≢ []
+some_answer lines answer among none = Contains-none answer (subst (λ answers. Contains answers answer) none (listed_from lines answer among))
+
+temporary_by : (problem : Problem) (lines : List Note) (owed : Option (List ℕ)) (nogood : Nogood) → ((answer : List ℕ) → owed ≡ Some answer → Contains lines (Answer answer)) → MayFollow problem lines owed (Temporary nogood) → answers_in lines ≢ []
+temporary_by problem lines None nogood rightly line = line.answered
+temporary_by problem lines (Some answer) nogood rightly line = some_answer lines answer (rightly answer refl)
+
+-- A temporary line stands after an answer.
+pub temporary_answered : (problem : Problem) (before rest : List Note) (nogood : Nogood) → AreLines problem first_stage (before ++ Temporary nogood ∷ rest) → answers_in before ≢ []
+temporary_answered problem before rest nogood lawful =
+    let stage = stage_after first_stage before in
+    let line = (lines_parts problem first_stage before (Temporary nogood ∷ rest) lawful).1.0 in
+    let rightly = rightly_after first_stage before (λ answer is. absurd (not_owed answer (sym is))) in
+    subst (λ lines. answers_in lines ≢ []) (lines_after first_stage before) (temporary_by problem stage.lines stage.owed nogood rightly line)

@@ -113,3 +113,12 @@ complete_lists problem truth notes admitted kept meets lawful ends =
       | inr refuted ↦ refuted_or_answered problem truth notes problem.start (full_sound problem truth notes admitted kept lawful)
           (subst (λ lines. IsRefuted (InFullStore problem lines) problem.start) (lines_after first_stage notes) refuted) meets.demanded
     ]
+
+-- A temporary nogood is contained only in those admitted assignments whose atoms are an earlier answer.
+pub temporary_rests : (problem : Problem) (before rest : List Note) (truth : ℕ → Bool) (nogood : Nogood) → AreLines problem first_stage (before ++ Temporary nogood ∷ rest) → IsAdmitted problem truth → HasNoKept problem truth → HasNogood truth nogood → Contains before (Answer (true_atoms problem truth))
+temporary_rests problem before rest truth nogood lawful admitted kept has =
+    let parts = lines_parts problem first_stage before (Temporary nogood ∷ rest) lawful in
+    let stage = stage_after first_stage before in
+    let refuted = temporary_line problem stage.lines stage.owed (Temporary nogood) nogood parts.1.0 refl in
+    refuted_or_answered problem truth before nogood (full_sound problem truth before admitted kept parts.0)
+      (subst (λ lines. IsRefuted (InFullStore problem lines) nogood) (lines_after first_stage before) refuted) has

@@ -1,3 +1,4 @@
 pub mod Problems
 pub mod Lines
 pub mod Parts
+pub mod Laws

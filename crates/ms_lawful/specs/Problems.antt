@@ -53,3 +53,34 @@ literal_of truth thing = record { var = thing; truth = truth thing }
 -- all atoms, each with its truth
 abbrev pub signs_of_atoms : Problem → (ℕ → Bool) → Nogood
 signs_of_atoms problem truth = map (literal_of truth) problem.atoms
+
+-- No admitted assignment contains the nogood.
+abbrev pub IsConsequence : Problem → Nogood → Type 0
+IsConsequence problem nogood = (truth : ℕ → Bool) → IsAdmitted problem truth → ¬ HasNogood truth nogood
+
+-- A problem whose nogoods and answers are given by tests, for laws that speak of every problem.
+pub record TestedProblem : Type 0 where
+  pub base : Nogood → Bool
+  pub gives : Nogood → Bool
+  pub member : List ℕ → Bool
+  pub things : ℕ
+  pub atoms : List ℕ
+  pub kept : List Nogood
+  pub impossible : Bool
+  pub start : List Lit
+  pub asked : ℕ
+  pub limit : ℕ
+
+abbrev pub problem_by : TestedProblem → Problem
+problem_by tests = record {
+  Base = λ nogood. IsTrue (tests.base nogood);
+  Gives = λ nogood. IsTrue (tests.gives nogood);
+  Member = λ atoms. IsTrue (tests.member atoms);
+  things = tests.things;
+  atoms = tests.atoms;
+  kept = tests.kept;
+  impossible = tests.impossible;
+  start = tests.start;
+  asked = tests.asked;
+  limit = tests.limit;
+}
