@@ -7,3 +7,4 @@ pub mod Nogoods
 pub mod Counts
 pub mod Listed
 pub mod Parts
+mod Rows
