@@ -7,4 +7,5 @@ pub mod Nogoods
 pub mod Counts
 pub mod Listed
 pub mod Parts
+pub mod Carrying
 mod Rows

@@ -1,7 +1,7 @@
 -- Stages, one line after another.
 use Rattle.std.proofs.Common.{ℕ, ◌≡◌, ◌∙◌, ◌<◌, ◌≤◌, ◌+◌, ◌⊎◌, List, [], ◌∷◌, ◌++◌, length, get_or, zero, suc, Option, Some, None, inl, inr, sym, subst, ap, refl, arith, append_assoc, append-nil}
 use Rattle.std.specs.Prelude.{Contains, filter_map}
-use Rattle.std.proofs.lemmas.List.Elements.{Contains-append_left, Contains-append_cases, Contains-push, filter_map-append}
+use Rattle.std.proofs.lemmas.List.Elements.{Contains-append_left, Contains-push_cases}
 use Rattle.std.proofs.lemmas.Slice.Eq.{bytes_eq-Decides}
 use Rattle.std.specs.Str.{bytes_eq}
 use Rattle.std.proofs.lemmas.Bool.{cases_Bool, false≢true}
@@ -34,6 +34,42 @@ lines_append problem stage (note ∷ before) notes first second = (first.0, line
 -- One more lawful line.
 pub lines_push : (problem : Problem) (stage : Stage) (before : List Note) (note : Note) → AreLines problem stage before → IsLine problem (stage_after stage before) note → AreLines problem stage (before ++ note ∷ [])
 lines_push problem stage before note first line = lines_append problem stage before (note ∷ []) first (line, tt)
+
+pub stage_after-push : (stage : Stage) (before : List Note) (note : Note) → stage_after stage (before ++ note ∷ []) ≡ after (stage_after stage before) note
+stage_after-push stage before note = stage_after-append stage before (note ∷ [])
+
+-- What is stored, stands or is in the full store after one more line.
+pub store_push_cases : (problem : Problem) (lines : List Note) (note : Note) (nogood : Nogood) → InStore problem (lines ++ note ∷ []) nogood → InStore problem lines nogood ⊎ ((note ≡ Theory nogood) ⊎ (note ≡ Kept nogood))
+store_push_cases problem lines note nogood (of_completion base) = inl (of_completion base)
+store_push_cases problem lines note nogood (kept_before among) = inl (kept_before among)
+store_push_cases problem lines note nogood (of_theory among) = elim (Contains-push_cases lines note (Theory nogood) among) [
+  | inl before ↦ inl (of_theory before)
+  | inr same ↦ inr (inl same)
+]
+store_push_cases problem lines note nogood (kept_now among) = elim (Contains-push_cases lines note (Kept nogood) among) [
+  | inl before ↦ inl (kept_now before)
+  | inr same ↦ inr (inr same)
+]
+
+pub stands_push_cases : (problem : Problem) (lines : List Note) (note : Note) (nogood : Nogood) → Stands problem (lines ++ note ∷ []) nogood → Stands problem lines nogood ⊎ (nogood_of note ≡ Some nogood)
+stands_push_cases problem lines note nogood (stored among) = elim (store_push_cases problem lines note nogood among) [
+  | inl before ↦ inl (stored before)
+  | inr same ↦ elim same [ inl given ↦ inr (ap nogood_of given) | inr learned ↦ inr (ap nogood_of learned) ]
+]
+stands_push_cases problem lines note nogood (temporary among) = elim (Contains-push_cases lines note (Temporary nogood) among) [
+  | inl before ↦ inl (temporary before)
+  | inr same ↦ inr (ap nogood_of same)
+]
+
+pub full_push_cases : (problem : Problem) (lines : List Note) (note : Note) (nogood : Nogood) → InFullStore problem (lines ++ note ∷ []) nogood → InFullStore problem lines nogood ⊎ ((nogood_of note ≡ Some nogood) ⊎ IsOfAnswer problem (note ∷ []) nogood)
+full_push_cases problem lines note nogood (standing among) = elim (stands_push_cases problem lines note nogood among) [
+  | inl before ↦ inl (standing before)
+  | inr same ↦ inr (inl same)
+]
+full_push_cases problem lines note nogood (of_answer answer) = elim (Contains-push_cases lines note (Answer (true_atoms problem answer.truth)) answer.answered) [
+  | inl before ↦ inl (of_answer (record { truth = answer.truth; answered = before; signs = answer.signs }))
+  | inr same ↦ inr (inr (record { truth = answer.truth; answered = Contains-here note (Answer (true_atoms problem answer.truth)) [] same; signs = answer.signs }))
+]
 
 -- What stands or is stored goes on doing so.
 pub store_more : (problem : Problem) (lines more : List Note) (nogood : Nogood) → InStore problem lines nogood → InStore problem (lines ++ more) nogood
