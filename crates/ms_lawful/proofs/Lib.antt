@@ -8,4 +8,5 @@ pub mod Counts
 pub mod Listed
 pub mod Parts
 pub mod Carrying
+pub mod Newness
 mod Rows

@@ -1,5 +1,5 @@
 -- The kept list and the declarations of a log.
-use Rattle.std.proofs.Common.{ℕ, ◌≡◌, ◌≢◌, ◌∙◌, ◌<◌, ◌≤◌, ◌+◌, ◌⊎◌, List, [], ◌∷◌, ◌++◌, length, get_or, zero, suc, Option, Some, None, inl, inr, sym, subst, ap, refl, arith}
+use Rattle.std.proofs.Common.{ℕ, ◌≡◌, ◌≢◌, ◌∙◌, ◌<◌, ◌≤◌, ◌+◌, ◌⊎◌, List, [], ◌∷◌, ◌++◌, length, get_or, zero, suc, Option, Some, None, inl, inr, sym, subst, ap, refl, arith, append-nil}
 use Rattle.std.specs.Prelude.{All, AllPairs, Contains}
 use Rattle.std.proofs.lemmas.List.Elements.{All-cons, All-contains_itself, All-weaker, Contains-append_left, Contains-push, filter_map-append}
 use Rattle.std.proofs.lemmas.List.Kept.{AllPairs-cons}
@@ -8,13 +8,20 @@ use Rattle.ms_lits.specs.declared.note.Note.TheVariants.{Kept}
 use Rattle.ms_lits.specs.Literals.{Nogood, IsContained}
 use Rattle.ms_lawful.specs.Problems.{Problem, HasNogood, IsAdmitted, IsConsequence}
 use Rattle.ms_lawful.specs.Lines.{AreLines, first_stage, kept_now, nogoods_in}
-use Rattle.ms_lawful.specs.Parts.{AreDeclarations, kept_by, kept_in, kept_list, last_of, most_kept}
+use Rattle.ms_lawful.specs.Parts.{AreDeclarations, kept_after, kept_by, kept_in, kept_list, last_of, most_kept}
 use Rattle.ms_lawful.proofs.Apart.{lines_apart}
 use Rattle.ms_lawful.proofs.Lists.{Contains-filter_map, last_of-append}
 use Rattle.ms_lawful.proofs.Soundness.{store_sound}
 
-pub kept_list-append : (log more : List Note) → kept_list (log ++ more) ≡ last_of most_kept (kept_list log ++ kept_in more)
-kept_list-append log more = ap (last_of most_kept) (filter_map-append kept_by log more) ∙ sym (last_of-append most_kept (kept_in log) (kept_in more))
+-- the last ones of the last ones
+last_twice : {X : Type 0} → (most : ℕ) (xs : List X) → last_of most (last_of most xs) ≡ last_of most xs
+last_twice most xs = ap (last_of most) (sym (append-nil (last_of most xs))) ∙ last_of-append most xs [] ∙ ap (last_of most) (append-nil xs)
+
+pub kept_list-append : (log more : List Note) → kept_list (log ++ more) ≡ last_of most_kept (kept_after (kept_list log) more)
+kept_list-append log more =
+    ap (last_of most_kept) (filter_map-append kept_by log more)
+    ∙ sym (last_of-append most_kept (kept_in log) (kept_in more))
+    ∙ ap (λ nogoods. last_of most_kept (nogoods ++ kept_in more)) (sym (last_twice most_kept (kept_in log)))
 
 kept_at : (lines : List Note) (note : Note) (nogood : Nogood) → Contains lines note → kept_by note ≡ Some nogood → Contains lines (Kept nogood)
 kept_at lines (Kept n) nogood among is = let same : n ≡ nogood = cc in subst (λ (m : Nogood). Contains lines (Kept m)) same among

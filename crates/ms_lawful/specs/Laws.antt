@@ -1,13 +1,14 @@
 -- The laws of the lawful log. They speak of every problem, every log and every total assignment.
 use Rattle.std.specs.Prelude.{ℕ, ◌≡◌, ◌≢◌, ◌+◌, ◌<◌, ◌≤◌, ◌^◌, ◌⊎◌, ◌++◌, Bool, List, [], ◌∷◌, length, None, All, AllPairs, Contains}
+use Rattle.ms_lits.specs.declared.lit.Lit.{Lit}
 use Rattle.ms_lits.specs.declared.note.Note.{Note}
 use Rattle.ms_lits.specs.declared.note.Note.TheVariants.{Answer, Kept, Temporary}
 use Rattle.ms_lits.specs.declared.note.Ending.{Ending}
 use Rattle.ms_lits.specs.declared.note.Ending.TheVariants.{Complete, Cut}
-use Rattle.ms_lits.specs.Literals.{Nogood, IsContained}
+use Rattle.ms_lits.specs.Literals.{Nogood, IsContained, IsDerived, IsRefuted, opposite_of}
 use Rattle.ms_lawful.specs.Problems.{Problem, TestedProblem, HasNogood, HasNoKept, IsAdmitted, IsConsequence, MeetsStart, problem_by, true_atoms}
-use Rattle.ms_lawful.specs.Lines.{AreLines, EndsRun, answers_in, first_stage, learned_in, nogoods_in, stage_after}
-use Rattle.ms_lawful.specs.Parts.{AreDeclarations, kept_in, kept_list, last_of, most_kept}
+use Rattle.ms_lawful.specs.Lines.{AreLines, EndsRun, Stands, answers_in, first_stage, learned_in, nogoods_in, stage_after}
+use Rattle.ms_lawful.specs.Parts.{AreDeclarations, kept_after, kept_in, kept_list, last_of, most_kept}
 
 -- the lines are lawful from the first one on
 abbrev pub AreLawful : TestedProblem → List Note → Type 0
@@ -94,9 +95,18 @@ LearnedLinesAreCounted =
     → (length (learned_in notes) ≤ tests.limit + length (answers_in notes))
       × (ending ≡ Cut → length (learned_in notes) ≡ tests.limit + length (answers_in notes))
 
--- The kept list of a longer log is made from that of the shorter one and what was kept since.
+-- A learned nogood that isn't an answer's own has a literal such that what stands neither refutes the others nor gives
+-- the opposite of that one from them, by unit closure.
+abbrev pub LearnedLinesAreNew : Type 0
+LearnedLinesAreNew =
+    (tests : TestedProblem) (before rest : List Note) (line : Note) (nogood : Nogood) → AreLawful tests (before ++ line ∷ rest)
+    → (line ≡ Kept nogood) ⊎ ((line ≡ Temporary nogood) × ((stage_after first_stage before).owed ≡ None))
+    → (lit : Lit) × Contains nogood lit × ((others : List Lit) → All (λ other. Contains nogood other × (other ≢ lit)) others
+      → (¬ IsRefuted (Stands (problem_by tests) before) others) × (¬ IsDerived (Stands (problem_by tests) before) others (opposite_of lit)))
+
+-- The kept list of a longer log follows from that of the shorter one and the lines since.
 abbrev pub KeptListGoesOn : Type 0
-KeptListGoesOn = (log more : List Note) → kept_list (log ++ more) ≡ last_of most_kept (kept_list log ++ kept_in more)
+KeptListGoesOn = (log more : List Note) → kept_list (log ++ more) ≡ last_of most_kept (kept_after (kept_list log) more)
 
 -- A thing is declared once.
 abbrev pub ThingsAreDeclaredOnce : Type 0

@@ -40,6 +40,10 @@ most_kept = 200000
 abbrev pub kept_list : List Note → List Nogood
 kept_list log = last_of most_kept (kept_in log)
 
+-- what is kept after a solve that began with the last ones of these
+abbrev pub kept_after : List Nogood → List Note → List Nogood
+kept_after kept part = last_of most_kept kept ++ kept_in part
+
 abbrev pub is_declaration : Note → Bool
 is_declaration (Atom text) = true
 is_declaration (Body literals) = true

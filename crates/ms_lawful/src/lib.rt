@@ -2,7 +2,7 @@
 // nothing: it speaks of every problem, every log and every total assignment.
 #![tactic(auto)]
 
-ghost use Rattle.ms_lawful.specs.Laws.{AnswersAreListedOnce, CompleteListsAll, GreatLimitsCutNothing, KeptIsNotLearnedAgain, KeptLinesHold, KeptListGoesOn, KeptStaysTrue, LearnedLinesAreCounted, LinesAreFew, LinesContainNoEarlier, OwnLineFollows, TemporaryFollowsAnswers, TemporaryRestsOnAnswers, ThingsAreDeclaredOnce};
+ghost use Rattle.ms_lawful.specs.Laws.{AnswersAreListedOnce, CompleteListsAll, GreatLimitsCutNothing, KeptIsNotLearnedAgain, KeptLinesHold, KeptListGoesOn, KeptStaysTrue, LearnedLinesAreCounted, LearnedLinesAreNew, LinesAreFew, LinesContainNoEarlier, OwnLineFollows, TemporaryFollowsAnswers, TemporaryRestsOnAnswers, ThingsAreDeclaredOnce};
 
 /// An admitted assignment that contains nothing kept from earlier solves contains no nogood that this one keeps.
 pub fn kept_lines_hold()
@@ -64,7 +64,12 @@ pub fn learned_lines_are_counted()
     ensures { LearnedLinesAreCounted }
 {}
 
-/// The kept list of a longer log is made from that of the shorter one and what was kept since.
+/// A learned nogood that isn't an answer's own brings something that unit closure doesn't give.
+pub fn learned_lines_are_new()
+    ensures { LearnedLinesAreNew }
+{}
+
+/// The kept list of a longer log follows from that of the shorter one and the lines since.
 pub fn kept_list_goes_on()
     ensures { KeptListGoesOn }
 {}
