@@ -1,15 +1,14 @@
 -- The nogoods of a solve's lines: each contains none that stands before it.
-use Rattle.std.proofs.Common.{ℕ, ◌≡◌, ◌≢◌, ◌∙◌, ◌<◌, ◌≤◌, ◌+◌, ◌⊎◌, List, [], ◌∷◌, ◌++◌, length, get_or, zero, suc, Option, Some, None, inl, inr, sym, subst, ap, refl, arith, append-nil}
-use Rattle.std.specs.Prelude.{All, AllPairs, Contains, filter_map}
+use Rattle.std.proofs.Common.{◌≡◌, ◌≢◌, ◌⊎◌, List, [], ◌∷◌, ◌++◌, get_or, Option, Some, None, inl, inr, sym, subst, refl, arith, append-nil}
+use Rattle.std.specs.Prelude.{All, AllPairs, Contains}
 use Rattle.std.specs.List.{cons_option}
 use Rattle.std.proofs.lemmas.List.Elements.{All-push, All-contains_itself, Contains-get_or, filter_map-append}
 use Rattle.std.proofs.lemmas.List.Quantifiers.{all_pairs_push}
-use Rattle.ms_lits.specs.declared.lit.Lit.{Lit}
 use Rattle.ms_lits.specs.declared.note.Note.{Note}
-use Rattle.ms_lits.specs.declared.note.Note.TheVariants.{Atom, Body, Tuple, Aggregate, Start, Theory, Kept, Temporary, Answer, Finish}
+use Rattle.ms_lits.specs.declared.note.Note.TheVariants.{Theory, Kept, Temporary}
 use Rattle.ms_lits.specs.Literals.{Nogood, IsContained}
 use Rattle.ms_lawful.specs.Problems.{Problem}
-use Rattle.ms_lawful.specs.Lines.{Stage, AreLines, IsFresh, IsInOrder, IsLine, MayFollow, InStore, Stands, after, first_stage, nogood_of, nogoods_in, of_completion, of_theory, kept_before, kept_now, stage_after, stored, temporary}
+use Rattle.ms_lawful.specs.Lines.{Stage, AreLines, IsFresh, IsInOrder, IsLine, Stands, after, first_stage, nogood_of, nogoods_in, of_completion, of_theory, kept_before, kept_now, stage_after, stored, temporary}
 use Rattle.ms_lawful.proofs.Lists.{Contains-filter_map}
 use Rattle.ms_lawful.proofs.Stages.{line_fresh, lines_after}
 
@@ -39,9 +38,9 @@ before_stands problem lines small (inr among) = stored (kept_before among)
 fresh_push : (problem : Problem) (lines : List Note) (nogood : Nogood) → IsFresh problem lines nogood → AreApart problem (nogoods_in lines) → AreApart problem (nogoods_in lines ++ nogood ∷ [])
 fresh_push problem lines nogood fresh before = record {
   apart = all_pairs_push (λ n later. ¬ IsContained later n) (nogoods_in lines) nogood before.apart
-    (λ k d h. fresh.contains_none (get_or (nogoods_in lines) k d) (nogoods_stand problem lines (get_or (nogoods_in lines) k d) (Contains-get_or (nogoods_in lines) k d h)));
+      (λ k d h. fresh.contains_none (get_or (nogoods_in lines) k d) (nogoods_stand problem lines (get_or (nogoods_in lines) k d) (Contains-get_or (nogoods_in lines) k d h)));
   outside = All-push (λ n. (small : Nogood) → problem.Base small ⊎ Contains problem.kept small → ¬ IsContained n small) (nogoods_in lines) nogood before.outside
-    (λ small is. fresh.contains_none small (before_stands problem lines small is));
+      (λ small is. fresh.contains_none small (before_stands problem lines small is));
   ordered = All-push (IsInOrder problem.things) (nogoods_in lines) nogood before.ordered fresh.ordered;
 }
 
@@ -53,7 +52,7 @@ apart_by problem lines note (Some nogood) fresh before = fresh_push problem line
 apart_push : (problem : Problem) (stage : Stage) (note : Note) → IsLine problem stage note → AreApart problem (nogoods_in stage.lines) → AreApart problem (nogoods_in (stage.lines ++ note ∷ []))
 apart_push problem stage note line before =
     subst (AreApart problem) (sym (filter_map-append nogood_of stage.lines (note ∷ [])))
-      (apart_by problem stage.lines note (nogood_of note) (λ nogood is. line_fresh problem stage.lines stage.owed note nogood line is) before)
+    (apart_by problem stage.lines note (nogood_of note) (λ nogood is. line_fresh problem stage.lines stage.owed note nogood line is) before)
 
 apart_after : (problem : Problem) (stage : Stage) (notes : List Note) → AreLines problem stage notes → AreApart problem (nogoods_in stage.lines) → AreApart problem (nogoods_in (stage_after stage notes).lines)
 apart_after problem stage [] lawful before = before

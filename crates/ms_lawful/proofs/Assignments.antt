@@ -1,11 +1,11 @@
 -- What a total assignment says of refutation and of the atoms.
-use Rattle.std.proofs.Common.{ℕ, ◌≡◌, ◌∙◌, ◌<◌, ◌⊎◌, Bool, true, false, not, cond, List, [], ◌∷◌, length, get_or, map, All, inl, inr, sym, subst, ap, refl, suc, arith}
-use Rattle.std.specs.Prelude.{IsTrue, if◌then◌else◌, filter, Contains}
+use Rattle.std.proofs.Common.{ℕ, ◌≡◌, ◌∙◌, Bool, true, false, not, cond, List, [], ◌∷◌, get_or, map, inl, inr, sym, subst, ap, refl}
+use Rattle.std.specs.Prelude.{IsTrue, if◌then◌else◌, filter}
 use Rattle.std.specs.List.{AllByRecursion}
 use Rattle.std.proofs.lemmas.Bool.{false≢true, cases_Bool}
 use Rattle.std.proofs.lemmas.List.Elements.{All-contains, recursion_from_All}
 use Rattle.ms_lits.specs.declared.lit.Lit.{Lit}
-use Rattle.ms_lits.specs.Literals.{Nogood, opposite_of, Forces, HasWhole, IsClosed, IsContained, IsRefuted, IsWhole}
+use Rattle.ms_lits.specs.Literals.{Nogood, opposite_of, IsClosed, IsContained, IsRefuted, IsWhole}
 use Rattle.ms_lawful.specs.Problems.{Problem, HasNogood, holds_under, literal_of, signs_of_atoms, true_atoms}
 
 -- the two signs of a thing

@@ -1,14 +1,14 @@
 -- Lawful lines of one problem are lawful lines of another one with the same nogoods and more answers.
-use Rattle.std.proofs.Common.{ℕ, ◌≡◌, ◌∙◌, Bool, length, map, ◌<◌, ◌≤◌, ◌⊎◌, List, [], ◌∷◌, ◌++◌, Option, Some, None, inl, inr, sym, subst, refl}
+use Rattle.std.proofs.Common.{ℕ, ◌≡◌, ◌∙◌, Bool, length, map, ◌<◌, ◌≤◌, List, [], ◌∷◌, Option, Some, None, inl, inr, sym, subst}
 use Rattle.std.specs.Prelude.{Contains, IsTrue, filter}
 use Rattle.ms_lits.specs.declared.lit.Lit.{Lit}
 use Rattle.ms_lits.specs.declared.note.Note.{Note}
-use Rattle.ms_lits.specs.declared.note.Note.TheVariants.{Atom, Body, Tuple, Aggregate, Start, Theory, Kept, Temporary, Answer, Finish}
+use Rattle.ms_lits.specs.declared.note.Note.TheVariants.{Theory, Kept, Temporary, Answer}
 use Rattle.ms_lits.specs.declared.note.Ending.{Ending}
 use Rattle.ms_lits.specs.declared.note.Ending.TheVariants.{Complete, StillOpen, Cut}
-use Rattle.ms_lits.specs.Literals.{Nogood, HasWhole, IsNew, IsRefuted}
+use Rattle.ms_lits.specs.Literals.{Nogood, IsNew, IsRefuted}
 use Rattle.ms_lawful.specs.Problems.{Problem, IsAdmitted, literal_of}
-use Rattle.ms_lawful.specs.Lines.{Stage, AreLines, EndsFor, EndsRun, InFullStore, InStore, IsFresh, IsInOrder, MayFollow, Stands, after, answers_in, of_answer, of_completion, of_theory, kept_before, kept_now, stage_after, standing, stored, temporary}
+use Rattle.ms_lawful.specs.Lines.{Stage, AreLines, EndsFor, EndsRun, InFullStore, InStore, IsFresh, IsInOrder, MayFollow, Stands, after, answers_in, of_answer, of_completion, of_theory, kept_before, kept_now, standing, stored, temporary}
 
 -- What is refuted stays so with more nogoods.
 pub refuted_more : (Among More : Nogood → Type 0) (start : List Lit) → ((nogood : Nogood) → Among nogood → More nogood) → IsRefuted Among start → IsRefuted More start
@@ -112,11 +112,13 @@ lines_carry problem other says stage [] lawful = tt
 lines_carry problem other says stage (note ∷ notes) lawful = (line_carries problem other says stage.lines stage.owed note lawful.0, lines_carry problem other says (after stage note) notes lawful.1)
 
 ends_for_carries : (problem other : Problem) → SaysAsMuch problem other → (stage : Stage) (ending : Ending) → EndsFor problem stage ending → EndsFor other stage ending
-ends_for_carries problem other says stage Complete (fewer, why) =
-    (subst (λ asked. length (answers_in stage.lines) < asked) says.asked fewer, elim why [
-      | inl impossible ↦ inl (subst IsTrue says.impossible impossible)
-      | inr refuted ↦ inr (refuted_more (InFullStore problem stage.lines) (InFullStore other stage.lines) other.start (full_carries problem other says stage.lines) (subst (IsRefuted (InFullStore problem stage.lines)) says.start refuted))
-    ])
+ends_for_carries problem other says stage Complete (fewer, why) = (
+  subst (λ asked. length (answers_in stage.lines) < asked) says.asked fewer,
+  elim why [
+    | inl impossible ↦ inl (subst IsTrue says.impossible impossible)
+    | inr refuted ↦ inr (refuted_more (InFullStore problem stage.lines) (InFullStore other stage.lines) other.start (full_carries problem other says stage.lines) (subst (IsRefuted (InFullStore problem stage.lines)) says.start refuted))
+  ],
+)
 ends_for_carries problem other says stage StillOpen many = many ∙ says.asked
 ends_for_carries problem other says stage Cut (fewer, spent) = (subst (λ asked. length (answers_in stage.lines) < asked) says.asked fewer, spent ∙ says.limit)
 

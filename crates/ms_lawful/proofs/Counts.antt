@@ -1,14 +1,12 @@
 -- How many nogoods a solve learns.
-use Rattle.std.proofs.Common.{ℕ, ◌≡◌, ◌≢◌, ◌∙◌, ◌<◌, ◌≤◌, ◌+◌, ◌^◌, ◌⊎◌, List, [], ◌∷◌, ◌++◌, length, get_or, zero, suc, Option, Some, None, inl, inr, sym, subst, ap, refl, arith, length-append}
-use Rattle.std.specs.Prelude.{All, AllPairs, Contains}
+use Rattle.std.proofs.Common.{ℕ, ◌≡◌, ◌∙◌, ◌<◌, ◌≤◌, ◌+◌, ◌^◌, List, [], ◌∷◌, ◌++◌, length, Option, Some, None, subst, ap, refl, arith, length-append}
 use Rattle.std.proofs.lemmas.List.Elements.{filter-append, filter_map-append}
 use Rattle.ms_lits.specs.declared.note.Note.{Note}
-use Rattle.ms_lits.specs.declared.note.Note.TheVariants.{Atom, Body, Tuple, Aggregate, Start, Theory, Kept, Temporary, Answer, Finish}
+use Rattle.ms_lits.specs.declared.note.Note.TheVariants.{Theory, Kept, Temporary, Answer}
 use Rattle.ms_lits.specs.declared.note.Ending.{Ending}
 use Rattle.ms_lits.specs.declared.note.Ending.TheVariants.{Cut}
-use Rattle.ms_lits.specs.Literals.{Nogood}
 use Rattle.ms_lawful.specs.Problems.{Problem}
-use Rattle.ms_lawful.specs.Lines.{Stage, AreLines, EndsFor, EndsRun, IsLine, MayFollow, after, answer_of, answers_in, first_stage, is_learned, learned_in, nogood_of, nogoods_in, owed_after, spent_by, spent_for, stage_after}
+use Rattle.ms_lawful.specs.Lines.{Stage, AreLines, EndsFor, EndsRun, IsLine, MayFollow, after, answer_of, answers_in, first_stage, is_learned, learned_in, nogood_of, nogoods_in, owed_after, spent_by, stage_after}
 use Rattle.ms_lawful.proofs.Apart.{apart_differ, lines_apart}
 use Rattle.ms_lawful.proofs.Nogoods.{few_nogoods}
 use Rattle.ms_lawful.proofs.Stages.{lines_after}

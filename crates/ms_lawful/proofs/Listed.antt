@@ -1,15 +1,14 @@
 -- The answers of a solve, and the lines that are theirs.
-use Rattle.std.proofs.Common.{ℕ, ◌≡◌, ◌≢◌, ◌∙◌, ◌<◌, ◌≤◌, ◌+◌, ◌⊎◌, Bool, List, [], ◌∷◌, ◌++◌, length, get_or, zero, suc, Option, Some, None, inl, inr, sym, subst, ap, refl, arith, append-nil}
-use Rattle.std.specs.Prelude.{All, AllPairs, Contains, filter_map}
+use Rattle.std.proofs.Common.{ℕ, ◌≡◌, ◌≢◌, ◌∙◌, Bool, List, [], ◌∷◌, ◌++◌, get_or, Option, Some, None, sym, subst, ap, refl, arith, append-nil}
+use Rattle.std.specs.Prelude.{All, AllPairs, Contains}
 use Rattle.std.specs.List.{cons_option}
-use Rattle.std.proofs.lemmas.List.Elements.{All-push, Contains-append_left, Contains-get_or, Contains-push, filter_map-append}
+use Rattle.std.proofs.lemmas.List.Elements.{All-push, Contains-get_or, Contains-push, filter_map-append}
 use Rattle.std.proofs.lemmas.List.Quantifiers.{all_pairs_push}
 use Rattle.ms_lits.specs.declared.note.Note.{Note}
-use Rattle.ms_lits.specs.declared.note.Note.TheVariants.{Atom, Body, Tuple, Aggregate, Start, Theory, Kept, Temporary, Answer, Finish}
-use Rattle.ms_lits.specs.declared.note.Ending.{Ending}
+use Rattle.ms_lits.specs.declared.note.Note.TheVariants.{Temporary, Answer}
 use Rattle.ms_lits.specs.Literals.{Nogood}
 use Rattle.ms_lawful.specs.Problems.{Problem, HasNogood, IsAdmitted, true_atoms}
-use Rattle.ms_lawful.specs.Lines.{Stage, AreLines, EndsRun, IsAnswerLine, IsLine, MayFollow, after, answer_of, answers_in, first_stage, owed_after, stage_after}
+use Rattle.ms_lawful.specs.Lines.{Stage, AreLines, IsAnswerLine, IsLine, MayFollow, after, answer_of, answers_in, first_stage, owed_after, stage_after}
 use Rattle.ms_lawful.proofs.Lists.{Contains-filter_map, Contains-none, filter_map-Contains}
 use Rattle.ms_lawful.proofs.Stages.{lines_after, lines_parts, stage_after-append}
 
@@ -40,7 +39,7 @@ listed_one : (problem : Problem) (lines : List Note) (answer : List ℕ) → IsA
 listed_one problem lines answer line before = record {
   members = All-push problem.Member (answers_in lines) answer before.members line.member;
   differ = all_pairs_push (λ a later. a ≢ later) (answers_in lines) answer before.differ
-    (λ k d h same. line.differs (subst (λ (a : List ℕ). Contains lines (Answer a)) same (answered_from lines (get_or (answers_in lines) k d) (Contains-get_or (answers_in lines) k d h))));
+      (λ k d h same. line.differs (subst (λ (a : List ℕ). Contains lines (Answer a)) same (answered_from lines (get_or (answers_in lines) k d) (Contains-get_or (answers_in lines) k d h))));
 }
 
 listed_by : (problem : Problem) (lines : List Note) (o : Option (List ℕ)) → ((answer : List ℕ) → o ≡ Some answer → IsAnswerLine problem lines answer) → AreListed problem (answers_in lines) → AreListed problem (answers_in lines ++ cons_option o [])
@@ -50,7 +49,7 @@ listed_by problem lines (Some answer) line before = listed_one problem lines ans
 listed_push : (problem : Problem) (stage : Stage) (note : Note) → IsLine problem stage note → AreListed problem (answers_in stage.lines) → AreListed problem (answers_in (stage.lines ++ note ∷ []))
 listed_push problem stage note line before =
     subst (AreListed problem) (sym (filter_map-append answer_of stage.lines (note ∷ [])))
-      (listed_by problem stage.lines (answer_of note) (λ answer is. answer_line problem stage.lines stage.owed note answer line is) before)
+    (listed_by problem stage.lines (answer_of note) (λ answer is. answer_line problem stage.lines stage.owed note answer line is) before)
 
 listed_after : (problem : Problem) (stage : Stage) (notes : List Note) → AreLines problem stage notes → AreListed problem (answers_in stage.lines) → AreListed problem (answers_in (stage_after stage notes).lines)
 listed_after problem stage [] lawful before = before
@@ -59,7 +58,7 @@ listed_after problem stage (note ∷ notes) lawful before = listed_after problem
 pub lines_listed : (problem : Problem) (notes : List Note) → AreLines problem first_stage notes → AreListed problem (answers_in notes)
 lines_listed problem notes lawful =
     subst (λ lines. AreListed problem (answers_in lines)) (lines_after first_stage notes)
-      (listed_after problem first_stage notes lawful (record { members = λ k d h. absurd (omega arith); differ = λ i j d less within. absurd (omega arith) }))
+    (listed_after problem first_stage notes lawful (record { members = λ k d h. absurd (omega arith); differ = λ i j d less within. absurd (omega arith) }))
 
 -- The answer's own line comes next, and an admitted assignment with the answer's atoms contains its nogood.
 pub record OwnComesNext (problem : Problem) (answer : List ℕ) (notes : List Note) : Type 0 where
@@ -79,15 +78,15 @@ own_next : (problem : Problem) (stage : Stage) (answer : List ℕ) (notes : List
 own_next problem stage answer [] owed lawful nothing = absurd (not_owed answer (sym owed ∙ nothing))
 own_next problem stage answer (note ∷ notes) owed lawful nothing = own_line note (subst (λ o. MayFollow problem stage.lines o note) owed lawful.0)
   where
-  own_line : (first : Note) → MayFollow problem stage.lines (Some answer) first → OwnComesNext problem answer (first ∷ notes)
-  own_line (Temporary nogood) line = record { nogood = nogood; rest = notes; first = refl; truth = line.truth; admitted = line.admitted; answers = line.answers; contained = line.contained }
-  own_line first line = absurd line
+    own_line : (first : Note) → MayFollow problem stage.lines (Some answer) first → OwnComesNext problem answer (first ∷ notes)
+    own_line (Temporary nogood) line = record { nogood = nogood; rest = notes; first = refl; truth = line.truth; admitted = line.admitted; answers = line.answers; contained = line.contained }
+    own_line first line = absurd line
 
 pub own_follows : (problem : Problem) (before notes : List Note) (answer : List ℕ) → AreLines problem first_stage (before ++ Answer answer ∷ notes) → (stage_after first_stage (before ++ Answer answer ∷ notes)).owed ≡ None → OwnComesNext problem answer notes
 own_follows problem before notes answer lawful nothing =
     let rest = (lines_parts problem first_stage before (Answer answer ∷ notes) lawful).1 in
     own_next problem (after (stage_after first_stage before) (Answer answer)) answer notes refl rest.1
-      (ap (λ s. s.owed) (sym (stage_after-append first_stage before (Answer answer ∷ notes))) ∙ nothing)
+    (ap (λ s. s.owed) (sym (stage_after-append first_stage before (Answer answer ∷ notes))) ∙ nothing)
 
 -- where a line is owed there was an answer
 abbrev IsOwedRightly : Stage → Type 0

@@ -33,14 +33,15 @@ pub Contains-filter_map : {X Y : Type 0} → (h : X → Option Y) (y : Y) (xs : 
 Contains-filter_map h y [] among = absurd (Contains-none y among)
 Contains-filter_map {X} {Y} h y (x ∷ xs) among = at_first (h x) refl (Contains-filter_map h y xs) among
   where
-  later_one : ((z : X) × Contains xs z × (h z ≡ Some y)) → (z : X) × Contains (x ∷ xs) z × (h z ≡ Some y)
-  later_one (z, inside, is) = (z, Contains-cons x z xs inside, is)
-  at_first : (o : Option Y) → h x ≡ o → (Contains (filter_map h xs) y → (z : X) × Contains xs z × (h z ≡ Some y)) → Contains (cons_option o (filter_map h xs)) y → (z : X) × Contains (x ∷ xs) z × (h z ≡ Some y)
-  at_first None is rest among = later_one (rest among)
-  at_first (Some first) is rest among = elim (Contains-cons_cases first y (filter_map h xs) among) [
-    | inl same ↦ (x, Contains-here x x xs refl, is ∙ ap Some same)
-    | inr later ↦ later_one (rest later)
-  ]
+    later_one : ((z : X) × Contains xs z × (h z ≡ Some y)) → (z : X) × Contains (x ∷ xs) z × (h z ≡ Some y)
+    later_one (z, inside, is) = (z, Contains-cons x z xs inside, is)
+
+    at_first : (o : Option Y) → h x ≡ o → (Contains (filter_map h xs) y → (z : X) × Contains xs z × (h z ≡ Some y)) → Contains (cons_option o (filter_map h xs)) y → (z : X) × Contains (x ∷ xs) z × (h z ≡ Some y)
+    at_first None is rest among = later_one (rest among)
+    at_first (Some first) is rest among = elim (Contains-cons_cases first y (filter_map h xs) among) [
+      | inl same ↦ (x, Contains-here x x xs refl, is ∙ ap Some same)
+      | inr later ↦ later_one (rest later)
+    ]
 
 pub filter_map-Contains : {X Y : Type 0} → (h : X → Option Y) (x : X) (y : Y) (xs : List X) → Contains xs x → h x ≡ Some y → Contains (filter_map h xs) y
 filter_map-Contains h x y [] among is = absurd (Contains-none x among)
@@ -49,9 +50,9 @@ filter_map-Contains {X} {Y} h x y (z ∷ xs) among is = elim (Contains-cons_case
   | inr later ↦ behind (h z) (filter_map-Contains h x y xs later is)
 ]
   where
-  behind : (o : Option Y) → Contains (filter_map h xs) y → Contains (cons_option o (filter_map h xs)) y
-  behind None among = among
-  behind (Some first) among = Contains-cons first y (filter_map h xs) among
+    behind : (o : Option Y) → Contains (filter_map h xs) y → Contains (cons_option o (filter_map h xs)) y
+    behind None among = among
+    behind (Some first) among = Contains-cons first y (filter_map h xs) among
 
 pub AllPairs-head : {X : Type 0} → (R : X → X → Type 0) (x : X) (xs : List X) → AllPairs R (x ∷ xs) → All (R x) xs
 AllPairs-head R x xs pairs = λ k d h. pairs 0 (suc k) d (omega arith) (omega arith)

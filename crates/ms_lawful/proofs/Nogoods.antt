@@ -1,11 +1,10 @@
 -- There are three times as many nogoods in order for one more thing.
-use Rattle.std.proofs.Common.{ℕ, ◌≡◌, ◌≢◌, ◌∙◌, ◌<◌, ◌≤◌, ◌+◌, ◌*◌, ◌^◌, ◌⊎◌, Bool, true, false, List, [], ◌∷◌, ◌++◌, length, get_or, map, zero, suc, inl, inr, sym, subst, ap, refl, arith, length-append}
+use Rattle.std.proofs.Common.{ℕ, ◌≡◌, ◌≢◌, ◌∙◌, ◌<◌, ◌≤◌, ◌+◌, ◌*◌, ◌^◌, Bool, true, false, List, [], ◌∷◌, ◌++◌, length, get_or, map, zero, suc, inl, inr, sym, subst, refl, arith, length-append}
 use Rattle.std.specs.Prelude.{All, AllPairs, Contains}
 use Rattle.std.proofs.Math.Nat.{pow-suc}
 use Rattle.std.proofs.lemmas.Bool.{cases_order}
 use Rattle.std.proofs.lemmas.List.{length-map}
-use Rattle.std.proofs.lemmas.List.Elements.{All-cons, All-head, All-tail, All-weaker, Contains-append_left, Contains-append_right}
-use Rattle.ms_lits.specs.declared.lit.Lit.{Lit}
+use Rattle.std.proofs.lemmas.List.Elements.{All-cons, All-head, All-tail, Contains-append_left, Contains-append_right}
 use Rattle.ms_lits.specs.Literals.{Nogood}
 use Rattle.ms_lawful.specs.Lines.{IsInOrder}
 use Rattle.ms_lawful.proofs.Lists.{AllPairs-head, AllPairs-tail, Contains-here, Contains-map, different_few}
@@ -49,25 +48,25 @@ covered zero low (lit ∷ rest) above within rising =
     absurd (omega arith)
 covered (suc n) low [] above within rising =
     Contains-append_left (nogoods_from (suc low) n) (all_with low true (nogoods_from (suc low) n) ++ all_with low false (nogoods_from (suc low) n)) []
-      (covered n (suc low) [] (λ k d h. absurd (omega arith)) (λ k d h. absurd (omega arith)) rising)
+    (covered n (suc low) [] (λ k d h. absurd (omega arith)) (λ k d h. absurd (omega arith)) rising)
 covered (suc n) low (lit ∷ rest) above within rising =
     let later = AllPairs-head (λ l next. l.var < next.var) lit rest rising in
     let first = All-head (λ l. low ≤ l.var) lit rest above in
     elim (cases_order low lit.var) [
       | inl same ↦
           let tail = covered n (suc low) rest
-            (λ k d h. let g : lit.var < (get_or rest k d).var = later k d h in omega arith)
-            (λ k d h. let g : (get_or rest k d).var < low + suc n = All-tail (λ l. l.var < low + suc n) lit rest within k d h in omega arith)
-            (AllPairs-tail (λ l next. l.var < next.var) lit rest rising) in
+          (λ k d h. let g : lit.var < (get_or rest k d).var = later k d h in omega arith)
+          (λ k d h. let g : (get_or rest k d).var < low + suc n = All-tail (λ l. l.var < low + suc n) lit rest within k d h in omega arith)
+          (AllPairs-tail (λ l next. l.var < next.var) lit rest rising) in
           let made = with_first low lit.truth rest (nogoods_from (suc low) n) tail in
           subst (λ v. Contains (nogoods_from low (suc n)) ((record { var = v; truth = lit.truth }) ∷ rest)) same made
       | inr other ↦ elim other [
         | inl less ↦
             Contains-append_left (nogoods_from (suc low) n) (all_with low true (nogoods_from (suc low) n) ++ all_with low false (nogoods_from (suc low) n)) (lit ∷ rest)
-              (covered n (suc low) (lit ∷ rest)
-                (All-cons (λ l. suc low ≤ l.var) lit rest (omega arith) (λ k d h. let g : lit.var < (get_or rest k d).var = later k d h in omega arith))
-                (λ k d h. let g : (get_or (lit ∷ rest) k d).var < low + suc n = within k d h in omega arith)
-                rising)
+            (covered n (suc low) (lit ∷ rest)
+            (All-cons (λ l. suc low ≤ l.var) lit rest (omega arith) (λ k d h. let g : lit.var < (get_or rest k d).var = later k d h in omega arith))
+            (λ k d h. let g : (get_or (lit ∷ rest) k d).var < low + suc n = within k d h in omega arith)
+            rising)
         | inr more ↦ absurd (omega arith)
       ]
     ]

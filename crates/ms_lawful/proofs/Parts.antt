@@ -1,12 +1,12 @@
 -- The kept list and the declarations of a log.
-use Rattle.std.proofs.Common.{ℕ, ◌≡◌, ◌≢◌, ◌∙◌, ◌<◌, ◌≤◌, ◌+◌, ◌⊎◌, List, [], ◌∷◌, ◌++◌, length, get_or, zero, suc, Option, Some, None, inl, inr, sym, subst, ap, refl, arith, append-nil}
+use Rattle.std.proofs.Common.{ℕ, ◌≡◌, ◌≢◌, ◌∙◌, List, [], ◌∷◌, ◌++◌, get_or, Some, inr, sym, subst, ap, arith, append-nil}
 use Rattle.std.specs.Prelude.{All, AllPairs, Contains}
-use Rattle.std.proofs.lemmas.List.Elements.{All-cons, All-contains_itself, All-weaker, Contains-append_left, Contains-push, filter_map-append}
+use Rattle.std.proofs.lemmas.List.Elements.{All-cons, All-contains_itself, Contains-append_left, Contains-push, filter_map-append}
 use Rattle.std.proofs.lemmas.List.Kept.{AllPairs-cons}
 use Rattle.ms_lits.specs.declared.note.Note.{Note}
 use Rattle.ms_lits.specs.declared.note.Note.TheVariants.{Kept}
 use Rattle.ms_lits.specs.Literals.{Nogood, IsContained}
-use Rattle.ms_lawful.specs.Problems.{Problem, HasNogood, IsAdmitted, IsConsequence}
+use Rattle.ms_lawful.specs.Problems.{Problem, IsConsequence}
 use Rattle.ms_lawful.specs.Lines.{AreLines, first_stage, kept_now, nogoods_in}
 use Rattle.ms_lawful.specs.Parts.{AreDeclarations, kept_after, kept_by, kept_in, kept_list, last_of, most_kept}
 use Rattle.ms_lawful.proofs.Apart.{lines_apart}
@@ -36,7 +36,7 @@ kept_from lines nogood among =
 pub kept_consequences : (problem : Problem) (notes : List Note) → AreLines problem first_stage notes → All (IsConsequence problem) problem.kept → All (IsConsequence problem) (kept_in notes)
 kept_consequences problem notes lawful before = λ k d h truth admitted.
     store_sound problem truth notes admitted (λ i e g. before i e g truth admitted) lawful (get_or (kept_in notes) k d)
-      (kept_now (kept_from notes (get_or (kept_in notes) k d) (All-contains_itself (kept_in notes) k d h)))
+    (kept_now (kept_from notes (get_or (kept_in notes) k d) (All-contains_itself (kept_in notes) k d h)))
 
 pub not_again : (problem : Problem) (log notes : List Note) (nogood : Nogood) → problem.kept ≡ kept_list log → AreLines problem first_stage notes → Contains (kept_list log) nogood → All (λ line. (line ≢ nogood) × ¬ IsContained line nogood) (nogoods_in notes)
 not_again problem log notes nogood kept lawful among = λ k d h.
@@ -47,6 +47,7 @@ not_again problem log notes nogood kept lawful among = λ k d h.
 pub declared_once : (declared part : List Note) → AreDeclarations declared part → AllPairs (λ note later. note ≢ later) part × All (λ note. ¬ Contains declared note) part
 declared_once declared [] all = ((λ i j d less within. absurd (omega arith)), (λ k d h. absurd (omega arith)))
 declared_once declared (note ∷ part) all =
-    let rest = declared_once (declared ++ note ∷ []) part all.2 in
-    (AllPairs-cons (λ n later. n ≢ later) note part (λ k d h same. rest.1 k d h (subst (λ (n : Note). Contains (declared ++ note ∷ []) n) same (Contains-push declared note))) rest.0,
-     All-cons (λ n. ¬ Contains declared n) note part all.1 (λ k d h among. rest.1 k d h (Contains-append_left declared (note ∷ []) (get_or part k d) among)))
+    let rest = declared_once (declared ++ note ∷ []) part all.2 in (
+      AllPairs-cons (λ n later. n ≢ later) note part (λ k d h same. rest.1 k d h (subst (λ (n : Note). Contains (declared ++ note ∷ []) n) same (Contains-push declared note))) rest.0,
+      All-cons (λ n. ¬ Contains declared n) note part all.1 (λ k d h among. rest.1 k d h (Contains-append_left declared (note ∷ []) (get_or part k d) among)),
+    )

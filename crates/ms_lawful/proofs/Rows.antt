@@ -1,18 +1,17 @@
 -- A worked row: the log of the two rules that make a from the absence of b and b from that of a. The things are the
 -- atoms a and b, the body that lacks b and the body that lacks a. The solve lists both answer sets.
-use Rattle.std.proofs.Common.{ℕ, ◌≡◌, ◌∙◌, ◌<◌, ◌≤◌, ◌⊎◌, Bool, true, false, List, [], ◌∷◌, ◌++◌, length, zero, suc, None, inl, inr, sym, subst, ap, refl, arith}
+use Rattle.std.proofs.Common.{ℕ, ◌≡◌, ◌∙◌, ◌<◌, ◌⊎◌, Bool, true, false, List, [], ◌∷◌, inl, inr, sym, ap, refl, arith}
 use Rattle.std.specs.Prelude.{All, Contains, IsTrue, nat_eq, ◌||◌}
-use Rattle.std.specs.List.{AllByRecursion}
 use Rattle.std.proofs.lemmas.Bool.{false≢true}
 use Rattle.std.proofs.lemmas.List.Elements.{All-contains, All-from_recursion}
 use Rattle.ms_lits.specs.declared.lit.Lit.{Lit}
 use Rattle.ms_lits.specs.declared.note.Note.{Note}
 use Rattle.ms_lits.specs.declared.note.Note.TheVariants.{Atom, Body, Start, Theory, Kept, Temporary, Answer, Finish}
-use Rattle.ms_lits.specs.declared.note.Ending.TheVariants.{Complete}
-use Rattle.ms_lits.specs.Literals.{Nogood, Forces, IsClosed, IsContained, IsRefuted, IsWhole, opposite_of}
-use Rattle.ms_lawful.specs.Problems.{Problem, HasNogood, IsAdmitted, holds_under, true_atoms}
-use Rattle.ms_lawful.specs.Lines.{AreLines, EndsRun, InFullStore, InStore, IsAnswerLine, IsFresh, IsOfAnswer, IsOwnLine, Stands, first_stage, of_answer, of_completion, of_theory, kept_before, kept_now, stage_after, standing, stored, temporary}
-use Rattle.ms_lawful.specs.Parts.{AreDeclarations, IsSolvePart}
+use Rattle.ms_lits.specs.declared.note.Ending.TheVariants.{Complete, Cut}
+use Rattle.ms_lits.specs.Literals.{Nogood, Forces, IsContained, IsRefuted, IsWhole}
+use Rattle.ms_lawful.specs.Problems.{Problem, HasNogood, IsAdmitted, holds_under}
+use Rattle.ms_lawful.specs.Lines.{InFullStore, IsAnswerLine, IsKeptLine, IsOwnLine, Stands, of_answer, of_completion, of_theory, kept_before, kept_now, standing, stored, temporary}
+use Rattle.ms_lawful.specs.Parts.{AreDeclarations, IsDeclaredAs, IsSolvePart, IsText, kept_list, may_be_literal}
 use Rattle.ms_lawful.proofs.Lists.{Contains-cons, Contains-cons_cases, Contains-here, Contains-none}
 
 abbrev pos : ℕ → Lit
@@ -130,11 +129,11 @@ other_note note lines wanted differs rest among = elim (Contains-cons_cases note
 fresh_a : (small : Nogood) → Stands problem lines_a small → ¬ IsContained (pos 0 ∷ []) small
 fresh_a small (stored (of_completion base)) =
     each_completion (λ n. ¬ IsContained (pos 0 ∷ []) n)
-      (not_within (neg 1) (neg 2) (λ e. absurd (omega arith))) (not_within (pos 1) (pos 2) (λ e. absurd (omega arith)))
-      (not_within (neg 0) (neg 3) (λ e. absurd (omega arith))) (not_within (pos 0) (pos 3) (λ e. absurd (omega arith)))
-      (not_within (pos 0) (neg 2) (λ e. absurd (omega arith))) (not_within (pos 1) (neg 3) (λ e. absurd (omega arith)))
-      (not_within (neg 0) (pos 2) (λ e. absurd (omega arith))) (not_within (neg 1) (pos 3) (λ e. absurd (omega arith)))
-      small base
+    (not_within (neg 1) (neg 2) (λ e. absurd (omega arith))) (not_within (pos 1) (pos 2) (λ e. absurd (omega arith)))
+    (not_within (neg 0) (neg 3) (λ e. absurd (omega arith))) (not_within (pos 0) (pos 3) (λ e. absurd (omega arith)))
+    (not_within (pos 0) (neg 2) (λ e. absurd (omega arith))) (not_within (pos 1) (neg 3) (λ e. absurd (omega arith)))
+    (not_within (neg 0) (pos 2) (λ e. absurd (omega arith))) (not_within (neg 1) (pos 3) (λ e. absurd (omega arith)))
+    small base
 fresh_a small (stored (kept_before among)) = absurd (Contains-none small among)
 fresh_a small (stored (of_theory among)) = absurd (other_note (Answer (0 ∷ [])) [] (Theory small) (λ e. cc) (Contains-none (Theory small)) among)
 fresh_a small (stored (kept_now among)) = absurd (other_note (Answer (0 ∷ [])) [] (Kept small) (λ e. cc) (Contains-none (Kept small)) among)
@@ -163,7 +162,7 @@ lines_b = Answer (0 ∷ []) ∷ Temporary (pos 0 ∷ []) ∷ Answer (1 ∷ []) �
 refuted_b : IsRefuted (InFullStore problem lines_b) []
 refuted_b set whole closed =
     let no_a : IsTrue (set (neg 0)) = closed (pos 0 ∷ []) (standing (temporary (1, omega arith, refl))) (pos 0)
-      (record { contained = Contains-here (pos 0) (pos 0) [] refl; others = all_one (λ other. (other ≡ pos 0) ⊎ IsTrue (set other)) (pos 0) (inl refl) }) in
+    (record { contained = Contains-here (pos 0) (pos 0) [] refl; others = all_one (λ other. (other ≡ pos 0) ⊎ IsTrue (set other)) (pos 0) (inl refl) }) in
     let body : IsTrue (set (pos 3)) = closed (pair (neg 0) (neg 3)) (in_base lines_b _ (2, omega arith, refl)) (neg 3) (forces_second set (neg 0) (neg 3) no_a) in
     let b : IsTrue (set (pos 1)) = closed (pair (neg 1) (pos 3)) (in_base lines_b _ (7, omega arith, refl)) (neg 1) (forces_first set (neg 1) (pos 3) body) in
     inl (record {
@@ -189,11 +188,11 @@ HasLiteral note = Unit {0}
 fresh_b : (small : Nogood) → Stands problem lines_b small → ¬ IsContained [] small
 fresh_b small (stored (of_completion base)) =
     each_completion (λ n. ¬ IsContained [] n)
-      (empty_within (neg 1) (neg 2 ∷ [])) (empty_within (pos 1) (pos 2 ∷ []))
-      (empty_within (neg 0) (neg 3 ∷ [])) (empty_within (pos 0) (pos 3 ∷ []))
-      (empty_within (pos 0) (neg 2 ∷ [])) (empty_within (pos 1) (neg 3 ∷ []))
-      (empty_within (neg 0) (pos 2 ∷ [])) (empty_within (neg 1) (pos 3 ∷ []))
-      small base
+    (empty_within (neg 1) (neg 2 ∷ [])) (empty_within (pos 1) (pos 2 ∷ []))
+    (empty_within (neg 0) (neg 3 ∷ [])) (empty_within (pos 0) (pos 3 ∷ []))
+    (empty_within (pos 0) (neg 2 ∷ [])) (empty_within (pos 1) (neg 3 ∷ []))
+    (empty_within (neg 0) (pos 2 ∷ [])) (empty_within (neg 1) (pos 3 ∷ []))
+    small base
 fresh_b small (stored (kept_before among)) = absurd (Contains-none small among)
 fresh_b small (stored (of_theory among)) = among_b HasLiteral (Theory small) tt (empty_within (pos 0) []) tt among
 fresh_b small (stored (kept_now among)) = among_b HasLiteral (Kept small) tt (empty_within (pos 0) []) tt among
@@ -221,7 +220,7 @@ line_b = record {
   answers = refl;
   member = inr refl;
   differs = other_note (Answer (0 ∷ [])) (Temporary (pos 0 ∷ []) ∷ []) (Answer (1 ∷ [])) (λ e. cc)
-    (other_note (Temporary (pos 0 ∷ [])) [] (Answer (1 ∷ [])) (λ e. cc) (Contains-none (Answer (1 ∷ []))));
+      (other_note (Temporary (pos 0 ∷ [])) [] (Answer (1 ∷ [])) (λ e. cc) (Contains-none (Answer (1 ∷ []))));
 }
 
 abbrev lines : List Note
@@ -237,10 +236,153 @@ two_answers = record {
   ends = record {
     nothing_owed = refl;
     within = omega arith;
-    reason = (omega arith, inr (λ set whole closed. inl (record {
-      nogood = [];
-      among = standing (temporary (3, omega arith, refl));
-      whole = λ k d h. absurd (omega arith);
-    })));
+    reason = (
+      omega arith,
+      inr (λ set whole closed. inl (record {
+        nogood = [];
+        among = standing (temporary (3, omega arith, refl));
+        whole = λ k d h. absurd (omega arith);
+      })),
+    );
+  };
+}
+
+text_of : (byte : ℕ) → (byte ≡ 10 → ⊥) → IsText (byte ∷ [])
+text_of byte differs = record {
+  some = λ e. cc;
+  one_line = All-from_recursion (λ (b : ℕ). b ≡ 10 → ⊥) (byte ∷ []) (differs, tt);
+}
+
+abbrev first_byte : Note → ℕ
+first_byte (Atom (byte ∷ bytes)) = byte
+first_byte note = 0
+
+abbrev first_var : Note → ℕ
+first_var (Body (lit ∷ lits)) = lit.var
+first_var note = 0
+
+-- The declarations of that program: the atoms by their texts, and the two bodies.
+declared_row : AreDeclarations [] (Atom (97 ∷ []) ∷ Atom (98 ∷ []) ∷ Body (neg 1 ∷ []) ∷ Body (neg 0 ∷ []) ∷ [])
+declared_row = (
+  text_of 97 (λ e. absurd (omega arith)),
+  Contains-none (Atom (97 ∷ [])),
+  (
+    text_of 98 (λ e. absurd (omega arith)),
+    other_note (Atom (97 ∷ [])) [] (Atom (98 ∷ [])) (λ e. let bytes : 97 ≡ 98 = ap first_byte e in absurd (omega arith)) (Contains-none (Atom (98 ∷ []))),
+    (
+      ((λ i j d less within. absurd (omega arith)), All-from_recursion (λ lit. IsDeclaredAs may_be_literal (Atom (97 ∷ []) ∷ Atom (98 ∷ []) ∷ []) lit.var) (neg 1 ∷ []) (refl, tt)),
+      other_note (Atom (97 ∷ [])) (Atom (98 ∷ []) ∷ []) (Body (neg 1 ∷ [])) (λ e. cc) (other_note (Atom (98 ∷ [])) [] (Body (neg 1 ∷ [])) (λ e. cc) (Contains-none (Body (neg 1 ∷ [])))),
+      (
+        ((λ i j d less within. absurd (omega arith)), All-from_recursion (λ lit. IsDeclaredAs may_be_literal (Atom (97 ∷ []) ∷ Atom (98 ∷ []) ∷ Body (neg 1 ∷ []) ∷ []) lit.var) (neg 0 ∷ []) (refl, tt)),
+        other_note (Atom (97 ∷ [])) (Atom (98 ∷ []) ∷ Body (neg 1 ∷ []) ∷ []) (Body (neg 0 ∷ [])) (λ e. cc)
+            (other_note (Atom (98 ∷ [])) (Body (neg 1 ∷ []) ∷ []) (Body (neg 0 ∷ [])) (λ e. cc)
+            (other_note (Body (neg 1 ∷ [])) [] (Body (neg 0 ∷ [])) (λ e. let vars : 1 ≡ 0 = ap first_var e in absurd (omega arith)) (Contains-none (Body (neg 0 ∷ []))))),
+        tt,
+      ),
+    ),
+  ),
+)
+
+-- A program without answer sets, whose two atoms exclude each other in each way, and a solve of limit 1: one nogood is
+-- learned and kept, and the solve is cut. The next one begins with it and is complete.
+abbrev excluded : List Nogood
+excluded = pair (pos 0) (pos 1) ∷ pair (pos 0) (neg 1) ∷ pair (neg 0) (pos 1) ∷ pair (neg 0) (neg 1) ∷ []
+
+abbrev tied : List Nogood → Problem
+tied kept = record {
+  Base = λ nogood. Contains excluded nogood;
+  Gives = λ nogood. ⊥;
+  Member = λ atoms. ⊥;
+  things = 2;
+  atoms = 0 ∷ 1 ∷ [];
+  kept = kept;
+  impossible = false;
+  start = [];
+  asked = 1;
+  limit = 1;
+}
+
+each_excluded : (P : Nogood → Type 0) → P (pair (pos 0) (pos 1)) → P (pair (pos 0) (neg 1)) → P (pair (neg 0) (pos 1)) → P (pair (neg 0) (neg 1)) → (nogood : Nogood) → Stands (tied []) [] nogood → P nogood
+each_excluded P a b c d nogood (stored (of_completion among)) = All-contains P excluded nogood (All-from_recursion P excluded (a, (b, (c, (d, tt))))) among
+each_excluded P a b c d nogood (stored (kept_before among)) = absurd (Contains-none nogood among)
+each_excluded P a b c d nogood (stored (of_theory among)) = absurd (Contains-none (Theory nogood) among)
+each_excluded P a b c d nogood (stored (kept_now among)) = absurd (Contains-none (Kept nogood) among)
+each_excluded P a b c d nogood (temporary among) = absurd (Contains-none (Temporary nogood) among)
+
+-- no literal
+abbrev nothing : Lit → Bool
+nothing lit = false
+
+-- of nothing a nogood of two things forces nothing
+forces_none : (first second : Lit) → (first.var ≡ second.var → ⊥) → (lit : Lit) → Forces nothing (pair first second) lit → ⊥
+forces_none first second differ lit forced = elim (forced.others 0 first (omega arith)) [
+  | inl one ↦ elim (forced.others 1 first (omega arith)) [
+    | inl two ↦ differ (ap (λ (l : Lit). l.var) (one ∙ sym two))
+    | inr holds ↦ false≢true holds
+  ]
+  | inr holds ↦ false≢true holds
+]
+
+kept_row : IsKeptLine (tied []) [] (pos 0 ∷ [])
+kept_row = record {
+  fresh = record {
+    ordered = record {
+      within = all_one (λ (lit : Lit). lit.var < 2) (pos 0) (omega arith);
+      rising = λ i j d less within. absurd (omega arith);
+    };
+    contains_none = each_excluded (λ n. ¬ IsContained (pos 0 ∷ []) n)
+        (not_within (pos 0) (pos 1) (λ e. absurd (omega arith))) (not_within (pos 0) (neg 1) (λ e. absurd (omega arith)))
+        (not_within (neg 0) (pos 1) (λ e. absurd (omega arith))) (not_within (neg 0) (neg 1) (λ e. absurd (omega arith)));
+  };
+  refuted = λ set whole closed.
+      let a : IsTrue (set (pos 0)) = whole 0 (pos 0) (omega arith) in
+      let no_b : IsTrue (set (neg 1)) = closed (pair (pos 0) (pos 1)) (of_completion (0, omega arith, refl)) (pos 1) (forces_second set (pos 0) (pos 1) a) in
+      inl (record { nogood = pair (pos 0) (neg 1); among = of_completion (1, omega arith, refl); whole = all_two (λ lit. IsTrue (set lit)) (pos 0) (neg 1) a no_b });
+  is_new = record {
+    lit = pos 0;
+    contained = Contains-here (pos 0) (pos 0) [] refl;
+    set = nothing;
+    others = all_one (λ other. (other ≡ pos 0) ⊎ IsTrue (nothing other)) (pos 0) (inl refl);
+    closed = λ nogood among lit forced. absurd (each_excluded (λ n. (l : Lit) → Forces nothing n l → ⊥)
+        (forces_none (pos 0) (pos 1) (λ e. absurd (omega arith))) (forces_none (pos 0) (neg 1) (λ e. absurd (omega arith)))
+        (forces_none (neg 0) (pos 1) (λ e. absurd (omega arith))) (forces_none (neg 0) (neg 1) (λ e. absurd (omega arith))) nogood among lit forced);
+    none_whole = λ has. each_excluded (λ n. ¬ IsWhole nothing n)
+        (λ whole. false≢true (whole 0 (pos 0) (omega arith))) (λ whole. false≢true (whole 0 (pos 0) (omega arith)))
+        (λ whole. false≢true (whole 0 (pos 0) (omega arith))) (λ whole. false≢true (whole 0 (pos 0) (omega arith))) has.nogood has.among has.whole;
+    one_sign = λ both. false≢true both.holds;
+    lacks = refl;
+  };
+}
+
+cut_row : IsSolvePart (tied []) Cut (99 ∷ []) (Start false [] ∷ Kept (pos 0 ∷ []) ∷ Finish (99 ∷ []) ∷ [])
+cut_row = record {
+  ordered = λ i j d less within. absurd (omega arith);
+  lines = Kept (pos 0 ∷ []) ∷ [];
+  whole = refl;
+  lawful = (kept_row, tt);
+  ends = record { nothing_owed = refl; within = omega arith; reason = (omega arith, refl) };
+}
+
+-- the next solve begins with what this one kept
+kept_next : kept_list (Start false [] ∷ Kept (pos 0 ∷ []) ∷ Finish (99 ∷ []) ∷ []) ≡ (pos 0 ∷ []) ∷ []
+kept_next = refl
+
+complete_row : IsSolvePart (tied ((pos 0 ∷ []) ∷ [])) Complete (99 ∷ []) (Start false [] ∷ Finish (99 ∷ []) ∷ [])
+complete_row = record {
+  ordered = λ i j d less within. absurd (omega arith);
+  lines = [];
+  whole = refl;
+  lawful = tt;
+  ends = record {
+    nothing_owed = refl;
+    within = omega arith;
+    reason = (
+      omega arith,
+      inr (λ set whole closed.
+          let no_a : IsTrue (set (neg 0)) = closed (pos 0 ∷ []) (standing (stored (kept_before (0, omega arith, refl)))) (pos 0)
+          (record { contained = Contains-here (pos 0) (pos 0) [] refl; others = all_one (λ other. (other ≡ pos 0) ⊎ IsTrue (set other)) (pos 0) (inl refl) }) in
+          let no_b : IsTrue (set (neg 1)) = closed (pair (neg 0) (pos 1)) (standing (stored (of_completion (2, omega arith, refl)))) (pos 1) (forces_second set (neg 0) (pos 1) no_a) in
+          inl (record { nogood = pair (neg 0) (neg 1); among = standing (stored (of_completion (3, omega arith, refl))); whole = all_two (λ lit. IsTrue (set lit)) (neg 0) (neg 1) no_a no_b })),
+    );
   };
 }

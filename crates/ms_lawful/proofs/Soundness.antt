@@ -1,15 +1,14 @@
 -- What a solve's lines say of the assignments that it looks for.
-use Rattle.std.proofs.Common.{ℕ, ◌≡◌, ◌∙◌, ◌<◌, ◌≤◌, ◌+◌, ◌⊎◌, Bool, true, false, List, [], ◌∷◌, ◌++◌, length, get_or, zero, suc, Option, Some, None, inl, inr, sym, subst, ap, refl, arith}
-use Rattle.std.specs.Prelude.{All, Contains, IsTrue}
+use Rattle.std.proofs.Common.{ℕ, ◌≡◌, ◌∙◌, ◌<◌, Bool, List, [], ◌∷◌, ◌++◌, Option, Some, None, inl, inr, sym, subst, refl, arith}
+use Rattle.std.specs.Prelude.{Contains}
 use Rattle.std.proofs.lemmas.Bool.{false≢true}
 use Rattle.std.proofs.lemmas.List.Elements.{All-contains, Contains-append_left, Contains-push_cases}
 use Rattle.ms_lits.specs.declared.note.Note.{Note}
-use Rattle.ms_lits.specs.declared.note.Note.TheVariants.{Atom, Body, Tuple, Aggregate, Start, Theory, Kept, Temporary, Answer, Finish}
-use Rattle.ms_lits.specs.declared.note.Ending.{Ending}
+use Rattle.ms_lits.specs.declared.note.Note.TheVariants.{Theory, Kept, Temporary, Answer}
 use Rattle.ms_lits.specs.declared.note.Ending.TheVariants.{Complete}
-use Rattle.ms_lits.specs.Literals.{Nogood, IsContained, IsRefuted}
-use Rattle.ms_lawful.specs.Problems.{Problem, HasNogood, HasNoKept, IsAdmitted, MeetsStart, signs_of_atoms, true_atoms}
-use Rattle.ms_lawful.specs.Lines.{Stage, AreLines, EndsRun, IsLine, MayFollow, InFullStore, InStore, IsOfAnswer, Stands, after, answers_in, first_stage, nogoods_in, of_answer, of_completion, of_theory, kept_before, kept_now, stage_after, standing, stored, temporary}
+use Rattle.ms_lits.specs.Literals.{Nogood, IsRefuted}
+use Rattle.ms_lawful.specs.Problems.{Problem, HasNogood, HasNoKept, IsAdmitted, MeetsStart, true_atoms}
+use Rattle.ms_lawful.specs.Lines.{Stage, AreLines, EndsRun, IsLine, MayFollow, InFullStore, InStore, IsOfAnswer, after, first_stage, of_answer, of_completion, of_theory, kept_before, kept_now, stage_after, standing, stored, temporary}
 use Rattle.ms_lawful.proofs.Assignments.{refuted_in_none, same_atoms}
 use Rattle.ms_lawful.proofs.Stages.{answered_or_not, lines_after, lines_parts}
 
@@ -86,8 +85,8 @@ answered_push problem truth stage note nothing answered line nogood (standing (t
     ])
 answered_push problem truth stage note nothing answered line nogood (of_answer answer) has = answer_same problem truth (stage.lines ++ note ∷ []) nogood answer has
   where
-  answer_same : (problem : Problem) (truth : ℕ → Bool) (lines : List Note) (nogood : Nogood) → IsOfAnswer problem lines nogood → HasNogood truth nogood → Contains lines (Answer (true_atoms problem truth))
-  answer_same problem truth lines nogood answer has = subst (λ atoms. Contains lines (Answer atoms)) (sym (same_atoms problem truth answer.truth (subst (HasNogood truth) answer.signs has))) answer.answered
+    answer_same : (problem : Problem) (truth : ℕ → Bool) (lines : List Note) (nogood : Nogood) → IsOfAnswer problem lines nogood → HasNogood truth nogood → Contains lines (Answer (true_atoms problem truth))
+    answer_same problem truth lines nogood answer has = subst (λ atoms. Contains lines (Answer atoms)) (sym (same_atoms problem truth answer.truth (subst (HasNogood truth) answer.signs has))) answer.answered
 
 answered_after : (problem : Problem) (truth : ℕ → Bool) (stage : Stage) (notes : List Note) → IsAdmitted problem truth → HasNoKept problem truth → HasNothing problem truth stage.lines → IsAnswered problem truth stage.lines → AreLines problem stage notes → IsAnswered problem truth (stage_after stage notes).lines
 answered_after problem truth stage [] admitted kept nothing answered lawful = answered
@@ -121,4 +120,4 @@ temporary_rests problem before rest truth nogood lawful admitted kept has =
     let stage = stage_after first_stage before in
     let refuted = temporary_line problem stage.lines stage.owed (Temporary nogood) nogood parts.1.0 refl in
     refuted_or_answered problem truth before nogood (full_sound problem truth before admitted kept parts.0)
-      (subst (λ lines. IsRefuted (InFullStore problem lines) nogood) (lines_after first_stage before) refuted) has
+    (subst (λ lines. IsRefuted (InFullStore problem lines) nogood) (lines_after first_stage before) refuted) has

@@ -1,16 +1,16 @@
 -- Stages, one line after another.
-use Rattle.std.proofs.Common.{ℕ, ◌≡◌, ◌∙◌, ◌<◌, ◌≤◌, ◌+◌, ◌⊎◌, List, [], ◌∷◌, ◌++◌, length, get_or, zero, suc, Option, Some, None, inl, inr, sym, subst, ap, refl, arith, append_assoc, append-nil}
-use Rattle.std.specs.Prelude.{Contains, filter_map}
+use Rattle.std.proofs.Common.{ℕ, ◌≡◌, ◌∙◌, ◌<◌, ◌⊎◌, List, [], ◌∷◌, ◌++◌, Option, Some, None, inl, inr, sym, subst, ap, refl, arith, append_assoc, append-nil}
+use Rattle.std.specs.Prelude.{Contains}
 use Rattle.std.proofs.lemmas.List.Elements.{Contains-append_left, Contains-push_cases}
 use Rattle.std.proofs.lemmas.Slice.Eq.{bytes_eq-Decides}
 use Rattle.std.specs.Str.{bytes_eq}
 use Rattle.std.proofs.lemmas.Bool.{cases_Bool, false≢true}
 use Rattle.ms_lits.specs.declared.note.Note.{Note}
-use Rattle.ms_lits.specs.declared.note.Note.TheVariants.{Atom, Body, Tuple, Aggregate, Start, Theory, Kept, Temporary, Answer, Finish}
+use Rattle.ms_lits.specs.declared.note.Note.TheVariants.{Theory, Kept, Temporary, Answer}
 use Rattle.ms_lits.specs.Literals.{Nogood}
 use Rattle.ms_lawful.proofs.Lists.{Contains-cons, Contains-cons_cases, Contains-here}
 use Rattle.ms_lawful.specs.Problems.{Problem, true_atoms}
-use Rattle.ms_lawful.specs.Lines.{Stage, AreLines, IsLine, MayFollow, InFullStore, InStore, IsFresh, IsOfAnswer, Stands, after, answer_of, answers_in, first_stage, nogood_of, nogoods_in, of_answer, of_completion, of_theory, kept_before, kept_now, stage_after, standing, stored, temporary}
+use Rattle.ms_lawful.specs.Lines.{Stage, AreLines, IsLine, MayFollow, InFullStore, InStore, IsFresh, IsOfAnswer, Stands, after, nogood_of, of_answer, of_completion, of_theory, kept_before, kept_now, stage_after, standing, stored, temporary}
 
 pub lines_after : (stage : Stage) (notes : List Note) → (stage_after stage notes).lines ≡ stage.lines ++ notes
 lines_after stage [] = sym (append-nil stage.lines)

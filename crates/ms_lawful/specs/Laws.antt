@@ -6,7 +6,7 @@ use Rattle.ms_lits.specs.declared.note.Note.TheVariants.{Answer, Kept, Temporary
 use Rattle.ms_lits.specs.declared.note.Ending.{Ending}
 use Rattle.ms_lits.specs.declared.note.Ending.TheVariants.{Complete, Cut}
 use Rattle.ms_lits.specs.Literals.{Nogood, IsContained, IsDerived, IsRefuted, opposite_of}
-use Rattle.ms_lawful.specs.Problems.{Problem, TestedProblem, HasNogood, HasNoKept, IsAdmitted, IsConsequence, MeetsStart, problem_by, true_atoms}
+use Rattle.ms_lawful.specs.Problems.{TestedProblem, HasNogood, HasNoKept, IsAdmitted, IsConsequence, MeetsStart, problem_by, true_atoms}
 use Rattle.ms_lawful.specs.Lines.{AreLines, EndsRun, Stands, answers_in, first_stage, learned_in, nogoods_in, stage_after}
 use Rattle.ms_lawful.specs.Parts.{AreDeclarations, kept_after, kept_in, kept_list, last_of, most_kept}
 
@@ -62,14 +62,14 @@ OwnLineFollows =
     (tests : TestedProblem) (before notes : List Note) (answer : List ℕ) (ending : Ending)
     → AreLawful tests (before ++ Answer answer ∷ notes) → MayEnd tests (before ++ Answer answer ∷ notes) ending
     → (nogood : Nogood) × (rest : List Note) × (truth : ℕ → Bool) × (notes ≡ Temporary nogood ∷ rest)
-      × IsAdmitted (problem_by tests) truth × (true_atoms (problem_by tests) truth ≡ answer) × HasNogood truth nogood
+    × IsAdmitted (problem_by tests) truth × (true_atoms (problem_by tests) truth ≡ answer) × HasNogood truth nogood
 
 -- No line's nogood contains that of an earlier line, a completion nogood, or one that was kept from earlier solves.
 abbrev pub LinesContainNoEarlier : Type 0
 LinesContainNoEarlier =
     (tests : TestedProblem) (notes : List Note) → AreLawful tests notes
     → AllPairs (λ nogood later. ¬ IsContained later nogood) (nogoods_in notes)
-      × All (λ nogood. (small : Nogood) → (problem_by tests).Base small ⊎ Contains tests.kept small → ¬ IsContained nogood small) (nogoods_in notes)
+    × All (λ nogood. (small : Nogood) → (problem_by tests).Base small ⊎ Contains tests.kept small → ¬ IsContained nogood small) (nogoods_in notes)
 
 -- A solve that begins with the kept list of a log has no line again whose nogood is in that list, or contains one of it.
 abbrev pub KeptIsNotLearnedAgain : Type 0
@@ -93,7 +93,7 @@ abbrev pub LearnedLinesAreCounted : Type 0
 LearnedLinesAreCounted =
     (tests : TestedProblem) (notes : List Note) (ending : Ending) → AreLawful tests notes → MayEnd tests notes ending
     → (length (learned_in notes) ≤ tests.limit + length (answers_in notes))
-      × (ending ≡ Cut → length (learned_in notes) ≡ tests.limit + length (answers_in notes))
+    × (ending ≡ Cut → length (learned_in notes) ≡ tests.limit + length (answers_in notes))
 
 -- A learned nogood that isn't an answer's own has a literal such that what stands neither refutes the others nor gives
 -- the opposite of that one from them, by unit closure.
@@ -102,7 +102,7 @@ LearnedLinesAreNew =
     (tests : TestedProblem) (before rest : List Note) (line : Note) (nogood : Nogood) → AreLawful tests (before ++ line ∷ rest)
     → (line ≡ Kept nogood) ⊎ ((line ≡ Temporary nogood) × ((stage_after first_stage before).owed ≡ None))
     → (lit : Lit) × Contains nogood lit × ((others : List Lit) → All (λ other. Contains nogood other × (other ≢ lit)) others
-      → (¬ IsRefuted (Stands (problem_by tests) before) others) × (¬ IsDerived (Stands (problem_by tests) before) others (opposite_of lit)))
+    → (¬ IsRefuted (Stands (problem_by tests) before) others) × (¬ IsDerived (Stands (problem_by tests) before) others (opposite_of lit)))
 
 -- The kept list of a longer log follows from that of the shorter one and the lines since.
 abbrev pub KeptListGoesOn : Type 0

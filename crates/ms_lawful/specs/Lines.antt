@@ -4,7 +4,6 @@
 -- unsatisfiability for CNF formulas" (2003); answers whose nogoods bind the rest of a solve alone, and the rules that
 -- no line repeats what stands, are this project's.
 use Rattle.std.specs.Prelude.{ℕ, ◌≡◌, ◌≢◌, ◌+◌, ◌<◌, ◌≤◌, ◌⊎◌, ◌++◌, Bool, true, false, IsTrue, List, [], ◌∷◌, length, Option, Some, None, All, AllPairs, Contains, filter, filter_map}
-use Rattle.ms_lits.specs.declared.lit.Lit.{Lit}
 use Rattle.ms_lits.specs.declared.note.Note.{Note}
 use Rattle.ms_lits.specs.declared.note.Note.TheVariants.{Theory, Kept, Temporary, Answer}
 use Rattle.ms_lits.specs.declared.note.Ending.{Ending}

@@ -55,10 +55,11 @@ is_declaration note = false
 abbrev pub declared_in : List Note → List Note
 declared_in log = filter is_declaration log
 
-abbrev pub is_literal : Note → Bool
-is_literal (Atom text) = true
-is_literal (Aggregate guards tuples) = true
-is_literal note = false
+-- atoms and aggregates may be literals of a body
+abbrev pub may_be_literal : Note → Bool
+may_be_literal (Atom text) = true
+may_be_literal (Aggregate guards tuples) = true
+may_be_literal note = false
 
 abbrev pub is_body : Note → Bool
 is_body (Body literals) = true
@@ -81,7 +82,7 @@ pub record IsText (bytes : List ℕ) : Type 0 where
 -- bodies, and an aggregate tuples.
 abbrev pub Declares : List Note → Note → Type 0
 Declares declared (Atom text) = IsText text
-Declares declared (Body literals) = AllPairs ComesBefore literals × All (λ lit. IsDeclaredAs is_literal declared lit.var) literals
+Declares declared (Body literals) = AllPairs ComesBefore literals × All (λ lit. IsDeclaredAs may_be_literal declared lit.var) literals
 Declares declared (Tuple terms conditions) = IsText terms × AllPairs (λ thing later. thing < later) conditions × All (IsDeclaredAs is_body declared) conditions
 Declares declared (Aggregate guards tuples) = IsText guards × AllPairs (λ thing later. thing < later) tuples × All (IsDeclaredAs is_tuple declared) tuples
 Declares declared note = ⊥

@@ -1,7 +1,7 @@
 -- What one solve is about, and the total assignments that it looks for. Things are numbered from 0, and a literal is
 -- a thing with its truth. Nogoods are given by what holds of each of them.
 -- Source: Gebser, Kaufmann and Schaub, "Conflict-driven answer set solving: from theory to practice" (2012).
-use Rattle.std.specs.Prelude.{ℕ, ◌≡◌, ◌<◌, Bool, false, not, IsTrue, if◌then◌else◌, List, All, AllPairs, filter, map}
+use Rattle.std.specs.Prelude.{ℕ, ◌≡◌, Bool, false, not, IsTrue, if◌then◌else◌, List, All, filter, map}
 use Rattle.ms_lits.specs.declared.lit.Lit.{Lit}
 use Rattle.ms_lits.specs.Literals.{Nogood, IsWhole}
 
