@@ -1,14 +1,17 @@
 -- The kept list and the declarations of a log.
-use Rattle.std.proofs.Common.{ℕ, ◌≡◌, ◌≢◌, ◌∙◌, List, [], ◌∷◌, ◌++◌, get_or, Some, inr, sym, subst, ap, arith, append-nil}
+use Rattle.std.specs.List.{cons_option}
+use Rattle.std.proofs.Common.{Bool, true, false, cond, ℕ, ◌≡◌, ◌≢◌, ◌∙◌, List, [], ◌∷◌, ◌++◌, get_or, Option, Some, None, inr, refl, sym, subst, ap, arith, append-nil}
 use Rattle.std.specs.Prelude.{All, AllPairs, Contains}
-use Rattle.std.proofs.lemmas.List.Elements.{All-cons, All-contains_itself, Contains-append_left, Contains-push, filter_map-append}
+use Rattle.std.proofs.lemmas.List.Elements.{All-cons, All-contains_itself, Contains-append_left, Contains-push, filter-append, filter_map-append}
 use Rattle.std.proofs.lemmas.List.Kept.{AllPairs-cons}
 use Rattle.ms_lits.specs.declared.note.Note.{Note}
-use Rattle.ms_lits.specs.declared.note.Note.TheVariants.{Kept}
+use Rattle.ms_lits.specs.declared.lit.Lit.{Lit}
+use Rattle.ms_lits.specs.declared.note.Note.TheVariants.{Atom, Body, Tuple, Aggregate, Start, Theory, Kept, Temporary, Answer, Finish}
+use Rattle.ms_lits.specs.declared.note.Ending.{Ending}
 use Rattle.ms_lits.specs.Literals.{Nogood, IsContained}
 use Rattle.ms_lawful.specs.Problems.{Problem, IsConsequence}
-use Rattle.ms_lawful.specs.Lines.{AreLines, first_stage, kept_now, nogoods_in}
-use Rattle.ms_lawful.specs.Parts.{AreDeclarations, kept_after, kept_by, kept_in, kept_list, last_of, most_kept}
+use Rattle.ms_lawful.specs.Lines.{Stage, AreLines, MayFollow, after, first_stage, kept_now, nogoods_in}
+use Rattle.ms_lawful.specs.Parts.{AreDeclarations, Declares, IsSolvePart, declared_in, is_declaration, kept_after, kept_by, kept_in, kept_list, last_of, most_kept}
 use Rattle.ms_lawful.proofs.Apart.{lines_apart}
 use Rattle.ms_lawful.proofs.Lists.{Contains-filter_map, last_of-append}
 use Rattle.ms_lawful.proofs.Soundness.{store_sound}
@@ -51,3 +54,54 @@ declared_once declared (note ∷ part) all =
       AllPairs-cons (λ n later. n ≢ later) note part (λ k d h same. rest.1 k d h (subst (λ (n : Note). Contains (declared ++ note ∷ []) n) same (Contains-push declared note))) rest.0,
       All-cons (λ n. ¬ Contains declared n) note part all.1 (λ k d h among. rest.1 k d h (Contains-append_left declared (note ∷ []) (get_or part k d) among)),
     )
+
+-- The frame of a solve's part keeps nothing and declares nothing, nor do its lines declare anything.
+pub kept_in_part : (impossible : Bool) (start : List Lit) (lines : List Note) (reply : List ℕ) → kept_in (Start impossible start ∷ lines ++ Finish reply ∷ []) ≡ kept_in lines
+kept_in_part impossible start lines reply = filter_map-append kept_by lines (Finish reply ∷ []) ∙ append-nil (kept_in lines)
+
+line_declares_nothing : (problem : Problem) (lines : List Note) (owed : Option (List ℕ)) (note : Note) → MayFollow problem lines owed note → is_declaration note ≡ false
+line_declares_nothing problem lines (Some answer) (Temporary nogood) line = refl
+line_declares_nothing problem lines None (Theory nogood) line = refl
+line_declares_nothing problem lines None (Kept nogood) line = refl
+line_declares_nothing problem lines None (Temporary nogood) line = refl
+line_declares_nothing problem lines None (Answer answer) line = refl
+line_declares_nothing problem lines owed note line = absurd line
+
+pub lines_declare_nothing : (problem : Problem) (stage : Stage) (notes : List Note) → AreLines problem stage notes → declared_in notes ≡ []
+lines_declare_nothing problem stage [] lawful = refl
+lines_declare_nothing problem stage (note ∷ notes) lawful =
+    ap (λ b. cond b (note ∷ declared_in notes) (declared_in notes)) (line_declares_nothing problem stage.lines stage.owed note lawful.0)
+    ∙ lines_declare_nothing problem (after stage note) notes lawful.1
+
+pub part_declares_nothing : (problem : Problem) (ending : Ending) (reply : List ℕ) (part : List Note) → IsSolvePart problem ending reply part → declared_in part ≡ []
+part_declares_nothing problem ending reply part solve =
+    ap declared_in solve.whole
+    ∙ filter-append is_declaration solve.lines (Finish reply ∷ [])
+    ∙ append-nil (declared_in solve.lines)
+    ∙ lines_declare_nothing problem first_stage solve.lines solve.lawful
+
+-- What is kept after the part of a solve.
+pub kept_after_part : (problem : Problem) (ending : Ending) (reply : List ℕ) (part log : List Note) (solve : IsSolvePart problem ending reply part) → kept_list (log ++ part) ≡ last_of most_kept (kept_after (kept_list log) solve.lines)
+kept_after_part problem ending reply part log solve =
+    kept_list-append log part
+    ∙ ap (λ nogoods. last_of most_kept (last_of most_kept (kept_list log) ++ nogoods)) (ap kept_in solve.whole ∙ kept_in_part problem.impossible problem.start solve.lines reply)
+
+declaration_is : (declared : List Note) (note : Note) → Declares declared note → (is_declaration note ≡ true) × (kept_by note ≡ None)
+declaration_is declared (Atom text) is = (refl, refl)
+declaration_is declared (Body literals) is = (refl, refl)
+declaration_is declared (Tuple terms conditions) is = (refl, refl)
+declaration_is declared (Aggregate guards tuples) is = (refl, refl)
+declaration_is declared note is = absurd is
+
+-- The part of a grounding is declarations alone.
+pub part_declares : (declared part : List Note) → AreDeclarations declared part → declared_in part ≡ part
+part_declares declared [] all = refl
+part_declares declared (note ∷ part) all =
+    ap (λ b. cond b (note ∷ declared_in part) (declared_in part)) (declaration_is declared note all.0).0
+    ∙ ap (λ notes. note ∷ notes) (part_declares (declared ++ note ∷ []) part all.2)
+
+pub part_keeps_nothing : (declared part : List Note) → AreDeclarations declared part → kept_in part ≡ []
+part_keeps_nothing declared [] all = refl
+part_keeps_nothing declared (note ∷ part) all =
+    ap (λ (o : Option Nogood). cons_option o (kept_in part)) (declaration_is declared note all.0).1
+    ∙ part_keeps_nothing (declared ++ note ∷ []) part all.2

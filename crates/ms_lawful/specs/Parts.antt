@@ -1,4 +1,7 @@
--- The parts of a log: the declarations that an accepted grounding adds, and the lines of a solve.
+-- The parts of a log: the declarations that an accepted grounding adds, and the lines of a solve. Things are numbered
+-- from 0 in the order of their declarations.
+-- Source: bodies as things of their own are after Gebser, Kaufmann and Schaub, "Conflict-driven answer set solving: from
+-- theory to practice" (2012); the log's form is this project's.
 use Rattle.std.specs.Prelude.{ℕ, ◌≡◌, ◌≢◌, ◌-◌, ◌<◌, ◌⊎◌, ◌++◌, Bool, true, false, List, [], ◌∷◌, length, drop, Option, Some, None, All, AllPairs, Contains, IfSome, filter, filter_map, slice_get}
 use Rattle.ms_lits.specs.declared.lit.Lit.{Lit}
 use Rattle.ms_lits.specs.declared.note.Note.{Note}

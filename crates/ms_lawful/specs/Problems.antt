@@ -5,20 +5,27 @@ use Rattle.std.specs.Prelude.{ℕ, ◌≡◌, Bool, false, not, IsTrue, if◌the
 use Rattle.ms_lits.specs.declared.lit.Lit.{Lit}
 use Rattle.ms_lits.specs.Literals.{Nogood, IsWhole}
 
--- The completion nogoods, and the nogoods that theories may give; the lists of true atoms that may be listed; how many
--- things there are, and those among them that are atoms; the nogoods kept from earlier solves; whether an atom that no
--- answer set can have is assumed true, and the literals that inputs and assumptions demand; how many answers are asked
--- for, and how many nogoods may be learned.
+-- What one solve is about.
 pub record Problem : Type 1 where
+  -- the completion nogoods
   pub Base : Nogood → Type 0
+  -- the nogoods that theories may give
   pub Gives : Nogood → Type 0
+  -- the lists of true atoms of what is to be listed
   pub Member : List ℕ → Type 0
+  -- how many things there are
   pub things : ℕ
+  -- the things that are atoms, in rising order
   pub atoms : List ℕ
+  -- the nogoods kept from earlier solves
   pub kept : List Nogood
+  -- whether an atom that no answer has is assumed true
   pub impossible : Bool
+  -- the literals that inputs and assumptions demand
   pub start : List Lit
+  -- how many answers are asked for
   pub asked : ℕ
+  -- how many nogoods may be learned beside the answers' own
   pub limit : ℕ
 
 -- the literal holds where each thing has the truth that it has here
