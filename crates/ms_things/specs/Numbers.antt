@@ -3,7 +3,7 @@
 -- theory to practice" (2012); the numbers are this project's.
 use Rattle.std.specs.Prelude.{ℕ, ◌≡◌, ◌≢◌, ◌<◌, ◌↔◌, ◌⊎◌, ◌++◌, Bool, false, List, Option, Some, None, AllPairs, Any, Contains, slice_get}
 use Rattle.ms_join.specs.Modules.{Join}
-use Rattle.ms_join.specs.Things.{Body, Thing, thing_holds, IsThing, tuple_of}
+use Rattle.ms_join.specs.Things.{Thing, thing_holds, IsThing, tuple_of}
 use Rattle.ms_join.specs.Things.Thing.{atom, body, tuple, aggregate}
 
 -- The thing is made of the other: a body of its atoms and aggregates, a tuple of its conditions, and an aggregate of its

@@ -1,0 +1,6 @@
+mod Walks
+mod FreeSets
+mod Choosing
+mod Counting
+mod Unfounded
+mod Founding

@@ -1,0 +1,23 @@
+-- The law of completion and loops, first in words of sets alone and then of nogoods.
+-- Source: Lin and Zhao, "ASSAT: computing answer sets of a logic program by SAT solvers" (2004); over nogoods, Gebser,
+-- Kaufmann and Schaub, "Conflict-driven answer set solving: from theory to practice" (2012).
+use Rattle.std.specs.Prelude.{ℕ, ◌↔◌, Bool, List}
+use Rattle.ms_join.specs.Modules.{Join, IsJoin}
+use Rattle.ms_join.specs.Possible.{IsPossible}
+use Rattle.ms_join.specs.Things.{Thing}
+use Rattle.ms_things.specs.Numbers.{AreThings, ext}
+use Rattle.ms_loops.specs.Founded.{ContainsNone, IsFoundedModel, IsOverBase}
+
+-- A possible set has atoms of the base alone.
+abbrev pub PossibleIsOverBase : Type 0
+PossibleIsOverBase = (j : Join) (set : ℕ → Bool) → IsJoin j → IsPossible j set → IsOverBase j set
+
+-- A set over the base is possible exactly where it is a founded model.
+abbrev pub PossibleIsFounded : Type 0
+PossibleIsFounded = (j : Join) (set : ℕ → Bool) → IsJoin j → IsOverBase j set → IsPossible j set ↔ IsFoundedModel j set
+
+-- A set over the base is possible exactly where the truths of the things in it contain no nogood of the join.
+abbrev pub CompletionAndLoops : Type 0
+CompletionAndLoops =
+    (j : Join) (things : List Thing) (set : ℕ → Bool) → IsJoin j → AreThings j things → IsOverBase j set
+    → IsPossible j set ↔ ContainsNone j things (ext set things)
