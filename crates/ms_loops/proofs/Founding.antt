@@ -1,17 +1,17 @@
 -- A founded model is possible. Of the atoms of a component that are in the set, but not in some model of its reduct, the
 -- rule that supports one from outside has positive atoms of lower components and of that model alone.
-use Rattle.std.proofs.Common.{◌≡◌, ◌∙◌, ◌⊎◌, ℕ, zero, suc, ◌+◌, ◌<◌, ◌≤◌, Bool, true, false, not, ◌&&◌, List, Option, Some, None, get_or, refl, sym, ap, subst, inl, inr, arith}
+use Rattle.std.proofs.Common.{◌≡◌, ◌∙◌, ℕ, zero, suc, ◌<◌, Bool, true, false, not, ◌&&◌, Option, Some, None, get_or, refl, sym, subst, inl, inr, arith}
 use Rattle.std.specs.Prelude.{IfSome, IsTrue}
-use Rattle.std.specs.List.{All, Contains, list_all}
+use Rattle.std.specs.List.{All, Contains}
 use Rattle.std.proofs.lemmas.Bool.{and_from, and_parts, cases_Bool, false_from_ne_true, false≢true, not_from_false, not_from_true, true_from_ne_false}
-use Rattle.std.proofs.lemmas.List.Elements.{All-contains, Contains-get_or}
+use Rattle.std.proofs.lemmas.List.Elements.{Contains-get_or}
 use Rattle.std.proofs.lemmas.List.Sums.{AllPass-from_list_all, list_all-from_AllPass}
 use Rattle.ms_join.specs.declared.ground_rule.GroundKind.{GroundKind}
 use Rattle.ms_join.specs.declared.ground_rule.GroundKind.TheVariants.{Normal, Choice, Constraint}
 use Rattle.ms_join.specs.declared.ground_rule.GroundRule.{GroundRule}
 use Rattle.ms_join.specs.AnswerSets.{HasHead, IsRuleOver, Keeps, has_all, has_none, side_holds}
-use Rattle.ms_join.specs.Dependencies.{AreTogether, Depends, Reaches}
-use Rattle.ms_join.specs.Modules.{Join, IsInput, IsJoin, IsOutput}
+use Rattle.ms_join.specs.Dependencies.{Reaches}
+use Rattle.ms_join.specs.Modules.{Join, IsInput, IsJoin}
 use Rattle.ms_join.specs.Possible.{IsPossible}
 use Rattle.ms_join.specs.Things.{body_holds, body_of}
 use Rattle.ms_things.specs.Completion.{has_head_in}
@@ -31,7 +31,7 @@ head_of : (set : ℕ → Bool) (head : Option ℕ) → IsTrue (has_head_in set h
 head_of set None holds = absurd (false≢true holds)
 head_of set (Some h) holds = (h, refl, holds)
 
-if_at : (P : ℕ → Type 0) (head : Option ℕ) (h : ℕ) → head ≡ Some h → IfSome head P → P h
+pub if_at : (P : ℕ → Type 0) (head : Option ℕ) (h : ℕ) → head ≡ Some h → IfSome head P → P h
 if_at P head h at holds = subst (λ (o : Option ℕ). IfSome o P) at holds
 
 -- a rule with a head that holds in the set is asked for its head
@@ -101,24 +101,24 @@ module _ (j : Join) (set other : ℕ → Bool) (t : Table j.atoms (Reaches j.rul
         let head = head_of (left_out a) rule.head parts.0 in
         let of = from_left_out over a head.0 within head.2 in
         let all : All (λ p. IsTrue (other p)) rule.pos = λ k d inside.
-            let p : ℕ = get_or rule.pos k d in
-            let here : IsTrue (set p) = AllPass-from_list_all set rule.pos halves.0 k d inside in
-            let aside : IsTrue (not (left_out a p)) = AllPass-from_list_all (λ b. not (left_out a b)) rule.pos parts.1 k d inside in
-            let reach : Reaches j.rules a p =
-                reaches_more j.rules a head.0 p of.forth (inl (among.0, rule, among.1, among.2, (head.1, Contains-get_or rule.pos k d inside))) in
-            let below : p < j.atoms = over p here in
-            true_from_ne_false (other p) (λ lacks. elim (cases_Bool (t.test p a)) [
-              | inl back ↦ false≢true (sym (not_from_true (left_out a p) (to_left_out a p here lacks ((t.decides a p within below).1 reach) back)) ∙ aside)
-              | inr apart ↦ false≢true (sym lacks ∙ lower_there p below reach apart here)
-            ]) in
+        let p : ℕ = get_or rule.pos k d in
+        let here : IsTrue (set p) = AllPass-from_list_all set rule.pos halves.0 k d inside in
+        let aside : IsTrue (not (left_out a p)) = AllPass-from_list_all (λ b. not (left_out a b)) rule.pos parts.1 k d inside in
+        let reach : Reaches j.rules a p =
+        reaches_more j.rules a head.0 p of.forth (inl (among.0, rule, among.1, among.2, (head.1, Contains-get_or rule.pos k d inside))) in
+        let below : p < j.atoms = over p here in
+        true_from_ne_false (other p) (λ lacks. elim (cases_Bool (t.test p a)) [
+          | inl back ↦ false≢true (sym (not_from_true (left_out a p) (to_left_out a p here lacks ((t.decides a p within below).1 reach) back)) ∙ aside)
+          | inr apart ↦ false≢true (sym lacks ∙ lower_there p below reach apart here)
+        ]) in
         false≢true (sym of.lacks ∙ gives set other j.atoms rule.kind rule head.0 is.head keep head.1 of.here halves.1 (list_all-from_AllPass other rule.pos all)))
 
     reached : (m a : ℕ) → a < j.atoms → count (t.test a) j.atoms < m → IsTrue (set a) → IsTrue (other a)
     reached zero a within few here = absurd (omega (arith, few))
     reached (suc m) a within few here = true_from_ne_false (other a) (λ lacks.
         let lower_there : (b : ℕ) → b < j.atoms → Reaches j.rules a b → t.test b a ≡ false → IsTrue (set b) → IsTrue (other b) = λ b below forth back there.
-            let less = lower a b within below forth back in
-            reached m b below (omega (arith, less, few)) there in
+        let less = lower a b within below forth back in
+        reached m b below (omega (arith, less, few)) there in
         let self : IsTrue (t.test a a) = (t.decides a a within within).1 (reaches_self j.rules a) in
         founded (left_out a) (record {
           among = component a within;

@@ -1,14 +1,13 @@
 -- Models of a reduct where all inputs are free, said of the atoms that are inputs in place of a list of them.
-use Rattle.std.proofs.Common.{ℕ, Bool, List, [], ◌∷◌, Option, Some, None, get_or, map, refl, subst}
+use Rattle.std.proofs.Common.{ℕ, Bool, List, [], ◌∷◌, None, get_or, map, refl, subst}
 use Rattle.std.specs.Prelude.{IsTrue}
 use Rattle.std.specs.List.{All, Contains}
 use Rattle.std.proofs.lemmas.List.Elements.{All-contains, All-map, All-cons, All-head, All-nil, All-tail, Contains-get_or}
-use Rattle.ms_join.specs.declared.ground_rule.GroundRule.{GroundRule}
 use Rattle.ms_join.specs.declared.ground_rule.Input.{Input}
 use Rattle.ms_join.specs.declared.ground_rule.Rules.{Rules}
 use Rattle.ms_join.specs.AnswerSets.{IsReductModel, Keeps, KeepsInput}
 use Rattle.ms_join.specs.Modules.{Join, IsInput}
-use Rattle.ms_join.specs.Possible.{IsPossible, freed}
+use Rattle.ms_join.specs.Possible.{freed}
 
 All-unmap : {X Y : Type 0} (P : X → Type 0) (f : Y → X) (ys : List Y) → All P (map f ys) → All (λ y. P (f y)) ys
 All-unmap P f [] all = All-nil (λ y. P (f y))

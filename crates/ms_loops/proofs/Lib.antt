@@ -4,3 +4,7 @@ mod Choosing
 mod Counting
 mod Unfounded
 mod Founding
+mod Members
+mod Writing
+mod Extended
+mod Nogoods

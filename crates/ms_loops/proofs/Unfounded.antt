@@ -16,7 +16,7 @@ use Rattle.ms_join.specs.Things.{body_holds, body_of}
 use Rattle.ms_things.specs.Completion.{has_head_in}
 use Rattle.ms_things.specs.Loops.{supports_from_outside}
 use Rattle.ms_loops.specs.Founded.{IsFoundedModel, IsOverBase, IsUnfounded}
-use Rattle.ms_loops.proofs.FreeSets.{has_inputs, model_from}
+use Rattle.ms_loops.proofs.FreeSets.{model_from}
 
 pub all_more : (f g : ℕ → Bool) (atoms : List ℕ) → ((a : ℕ) → IsTrue (f a) → IsTrue (g a)) → IsTrue (list_all f atoms) → IsTrue (list_all g atoms)
 all_more f g atoms more holds = list_all-from_AllPass g atoms (λ k d within. more (get_or atoms k d) (AllPass-from_list_all f atoms holds k d within))
@@ -41,9 +41,9 @@ module _ (set loop : ℕ → Bool) where
       → IsTrue (side_holds set rule) → IsTrue (has_all (without loop set) rule.pos) → IsTrue (set h) → IsTrue (without loop set h)
   head_left rule h at unsupported side all here = and_from (set h) (not (loop h)) here (not_from_false (loop h) (false_from_ne_true (loop h) (λ inside.
       let outside : IsTrue (supports_from_outside loop rule) =
-          and_from (has_head_in loop rule.head) (has_none loop rule.pos) (ap (has_head_in loop) at ∙ inside) (all_more (without loop set) (λ a. not (loop a)) rule.pos not_of_loop all) in
+      and_from (has_head_in loop rule.head) (has_none loop rule.pos) (ap (has_head_in loop) at ∙ inside) (all_more (without loop set) (λ a. not (loop a)) rule.pos not_of_loop all) in
       let body : IsTrue (body_holds set (body_of rule)) =
-          and_from (has_all set rule.pos) (side_holds set rule) (all_more (without loop set) set rule.pos of_set all) side in
+      and_from (has_all set rule.pos) (side_holds set rule) (all_more (without loop set) set rule.pos of_set all) side in
       false≢true (sym (unsupported outside) ∙ body))))
 
   rule_left : (kind : GroundKind) (rule : GroundRule) → (IsTrue (supports_from_outside loop rule) → body_holds set (body_of rule) ≡ false)
@@ -64,11 +64,11 @@ module _ (set loop : ℕ → Bool) where
 pub nothing_unfounded : (j : Join) (set loop : ℕ → Bool) → IsPossible j set → ¬ IsUnfounded j set loop
 nothing_unfounded j set loop possible is =
     let left : IsTrue (without loop set is.member) =
-        possible.least (without loop set)
-        (model_from j set (without loop set)
-        (λ k d within. rule_left set loop (get_or j.rules k d).kind (get_or j.rules k d) (is.unsupported k d within) (possible.model.rules k d within))
-        (λ a input here. and_from (set a) (not (loop a)) here (not_from_false (loop a) (false_from_ne_true (loop a) (λ inside. (is.among.outputs a inside).no_input input)))))
-        is.member is.true_there in
+    possible.least (without loop set)
+    (model_from j set (without loop set)
+    (λ k d within. rule_left set loop (get_or j.rules k d).kind (get_or j.rules k d) (is.unsupported k d within) (possible.model.rules k d within))
+    (λ a input here. and_from (set a) (not (loop a)) here (not_from_false (loop a) (false_from_ne_true (loop a) (λ inside. (is.among.outputs a inside).no_input input)))))
+    is.member is.true_there in
     false≢true (sym (not_from_true (loop is.member) is.has) ∙ not_of_loop set loop is.member left)
 
 pub founded_from_possible : (j : Join) (set : ℕ → Bool) → IsPossible j set → IsFoundedModel j set
@@ -80,7 +80,7 @@ founded_from_possible j set possible = record {
 
 -- ---- a possible set is over the base: its atoms of the base alone are a model too
 
-head_below : (n : ℕ) (kind : GroundKind) (head : Option ℕ) → HasHead n kind head → (h : ℕ) → head ≡ Some h → h < n
+pub head_below : (n : ℕ) (kind : GroundKind) (head : Option ℕ) → HasHead n kind head → (h : ℕ) → head ≡ Some h → h < n
 head_below n Normal None has h at = absurd has
 head_below n Normal (Some a) has h at = let same : a ≡ h = cc in subst (λ b. b < n) same has
 head_below n Choice None has h at = absurd has
@@ -108,10 +108,10 @@ input_below j below a (k, i, within, at, is) = subst (λ b. b < j.atoms) is (All
 pub possible_over_base : (j : Join) (set : ℕ → Bool) → IsJoin j → IsPossible j set → IsOverBase j set
 possible_over_base j set is possible a here =
     let there : IsTrue (cut j.atoms set a) =
-        possible.least (cut j.atoms set)
-        (model_from j set (cut j.atoms set)
-        (λ k d within. rule_below j.atoms set (get_or j.rules k d).kind (get_or j.rules k d)
-        (head_below j.atoms (get_or j.rules k d).kind (get_or j.rules k d).head (is.over.rules k d within).head) (possible.model.rules k d within))
-        (λ b input chosen. and_from (nat_lt b j.atoms) (set b) (lt-ltb b j.atoms (input_below j is.over.inputs b input)) chosen))
-        a here in
+    possible.least (cut j.atoms set)
+    (model_from j set (cut j.atoms set)
+    (λ k d within. rule_below j.atoms set (get_or j.rules k d).kind (get_or j.rules k d)
+    (head_below j.atoms (get_or j.rules k d).kind (get_or j.rules k d).head (is.over.rules k d within).head) (possible.model.rules k d within))
+    (λ b input chosen. and_from (nat_lt b j.atoms) (set b) (lt-ltb b j.atoms (input_below j is.over.inputs b input)) chosen))
+    a here in
     ltb-true a j.atoms (and_parts (nat_lt a j.atoms) (set a) there).0

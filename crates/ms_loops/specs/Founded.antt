@@ -9,7 +9,6 @@ use Rattle.ms_join.specs.Things.{Thing, body_holds, body_of}
 use Rattle.ms_things.specs.Aggregates.{IsAggregateNogood}
 use Rattle.ms_things.specs.Completion.{IsCompletionNogood}
 use Rattle.ms_things.specs.Loops.{IsLoopNogood, IsWithinComponent, supports_from_outside}
-use Rattle.ms_things.specs.Numbers.{ext}
 use Rattle.ms_things.specs.Signs.{IsContainedIn}
 
 -- Each atom of the set is one of the base.
