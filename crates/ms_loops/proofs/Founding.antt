@@ -27,7 +27,7 @@ was_false true holds = absurd (false≢true holds)
 was_false false holds = refl
 
 -- the head, where a test holds of it
-head_of : (set : ℕ → Bool) (head : Option ℕ) → IsTrue (has_head_in set head) → (h : ℕ) × (head ≡ Some h) × IsTrue (set h)
+pub head_of : (set : ℕ → Bool) (head : Option ℕ) → IsTrue (has_head_in set head) → (h : ℕ) × (head ≡ Some h) × IsTrue (set h)
 head_of set None holds = absurd (false≢true holds)
 head_of set (Some h) holds = (h, refl, holds)
 

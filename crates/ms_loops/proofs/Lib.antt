@@ -8,3 +8,4 @@ mod Members
 mod Writing
 mod Extended
 mod Nogoods
+pub mod Growing

@@ -75,7 +75,7 @@ module _ (j : Join) (set : ℕ → Bool) (is : IsFoundedModel j set) where
         (and_parts (has_head_in (nat_eq a) (get_or j.rules k d).head) (has_none (nat_eq a) (get_or j.rules k d).pos) outside).0;
   })
 
-  none_of_completion : (says : Completion) → IsOf j says → ¬ All (IsSo set) (signs_of j says)
+  none_of_completion : (says : Completion) → IsOf (IsThing j.atoms j.rules) (IsOutput j) j.rules says → ¬ All (IsSo set) (signs_of j.rules says)
   none_of_completion (whole_body b) of all =
       both (body_holds set b) (body_from_parts set b (All-tail (IsSo set) (minus (body b)) (parts_of b) all)) (All-head (IsSo set) (minus (body b)) (parts_of b) all)
   none_of_completion (part_of_body b part) (of, among) all =
@@ -111,7 +111,7 @@ module _ (j : Join) (set : ℕ → Bool) (is : IsFoundedModel j set) where
 pub none_contained : (j : Join) (things : List Thing) (set : ℕ → Bool) → IsFoundedModel j set → ContainsNone j things (ext set things)
 none_contained j things set is = record {
   completion = λ nogood n contained.
-      none_of_completion j set is n.says n.of_join (so_from set things (signs_of j n.says) (all_hold things (ext set things) (signs_of j n.says) nogood n.is contained));
+      none_of_completion j set is n.says n.of_join (so_from set things (signs_of j.rules n.says) (all_hold things (ext set things) (signs_of j.rules n.says) nogood n.is contained));
   loops = λ nogood n contained.
       let bodies : List Signed = false_bodies (supports_from_outside n.loop) j.rules in
       let all : All (IsSo set) (plus (atom n.member) ∷ bodies) =
@@ -148,9 +148,9 @@ module _ (j : Join) (things : List Thing) (set : ℕ → Bool) (is : IsJoin j) (
 
   module _ (none : ContainsNone j things (ext set things)) where
     -- what is said of the join, and holds in the set
-    not_said : (says : Completion) → IsOf j says → ¬ All (Holds things (ext set things)) (signs_of j says)
+    not_said : (says : Completion) → IsOf (IsThing j.atoms j.rules) (IsOutput j) j.rules says → ¬ All (Holds things (ext set things)) (signs_of j.rules says)
     not_said says of all =
-        let w = written things (ext set things) (signs_of j says) all in
+        let w = written things (ext set things) (signs_of j.rules says) all in
         none.completion w.nogood (record { says = says; of_join = of; is = w.is }) w.contained
 
     has_head : (rule : GroundRule) (h : ℕ) → Contains j.rules rule → rule.kind ≡ Normal → rule.head ≡ Some h → h < j.atoms → IsTrue (body_holds set (body_of rule)) → IsTrue (set h)

@@ -2,7 +2,7 @@
 // contract of a function that does nothing: it speaks of every join and every set.
 #![tactic(auto)]
 
-ghost use Rattle.ms_loops.specs.Laws.{CompletionAndLoops, PossibleIsFounded, PossibleIsOverBase};
+ghost use Rattle.ms_loops.specs.Laws.{CompletionAndLoops, CompletionGrows, PossibleIsFounded, PossibleIsOverBase};
 
 /// A set that is possible has atoms of the base alone.
 pub fn possible_is_over_base()
@@ -18,4 +18,9 @@ pub fn possible_is_founded()
 /// nogood.
 pub fn completion_and_loops()
     ensures { CompletionAndLoops }
+{}
+
+/// The completion nogoods of a join with a module are those that there were, and those that the module brings.
+pub fn completion_grows()
+    ensures { CompletionGrows }
 {}

@@ -4,9 +4,10 @@
 use Rattle.std.specs.Prelude.{ℕ, nat_eq, ◌≡◌, ◌++◌, Bool, false, not, List, [], ◌∷◌, Option, Some, None, map, Contains}
 use Rattle.std.specs.List.{filter}
 use Rattle.ms_lits.specs.Literals.{Nogood}
+use Rattle.ms_join.specs.declared.ground_module.GroundModule.{GroundModule}
 use Rattle.ms_join.specs.declared.ground_rule.GroundKind.TheVariants.{Normal, Constraint}
 use Rattle.ms_join.specs.declared.ground_rule.GroundRule.{GroundRule}
-use Rattle.ms_join.specs.Modules.{Join, IsOutput}
+use Rattle.ms_join.specs.Modules.{Join, IsOutput, added_rules}
 use Rattle.ms_join.specs.Things.{Body, Tuple, Thing, IsThing, body_of}
 use Rattle.ms_join.specs.Things.Thing.{atom, body, tuple, aggregate}
 use Rattle.ms_things.specs.Signs.{Signed, IsNogoodOf, plus, minus, turned}
@@ -39,27 +40,34 @@ pub data Completion : Type 0 where
   -- the body of a constraint holds
   broken : GroundRule → Completion
 
--- It is one of the join.
-abbrev pub IsOf : Join → Completion → Type 0
-IsOf j (whole_body b) = IsThing j.atoms j.rules (body b)
-IsOf j (part_of_body b part) = IsThing j.atoms j.rules (body b) × Contains (parts_of b) part
-IsOf j (no_condition t) = IsThing j.atoms j.rules (tuple t)
-IsOf j (condition_of_tuple t c) = IsThing j.atoms j.rules (tuple t) × Contains t.conditions c
-IsOf j (unsupported a) = IsOutput j a
-IsOf j (no_head rule h) = Contains j.rules rule × (rule.kind ≡ Normal) × (rule.head ≡ Some h)
-IsOf j (broken rule) = Contains j.rules rule × (rule.kind ≡ Constraint)
+-- It is one of these rules, of the bodies and tuples among these things, and of these outputs.
+abbrev pub IsOf : (Thing → Type 0) → (ℕ → Type 0) → List GroundRule → Completion → Type 0
+IsOf IsAmong IsOut rules (whole_body b) = IsAmong (body b)
+IsOf IsAmong IsOut rules (part_of_body b part) = IsAmong (body b) × Contains (parts_of b) part
+IsOf IsAmong IsOut rules (no_condition t) = IsAmong (tuple t)
+IsOf IsAmong IsOut rules (condition_of_tuple t c) = IsAmong (tuple t) × Contains t.conditions c
+IsOf IsAmong IsOut rules (unsupported a) = IsOut a
+IsOf IsAmong IsOut rules (no_head rule h) = Contains rules rule × (rule.kind ≡ Normal) × (rule.head ≡ Some h)
+IsOf IsAmong IsOut rules (broken rule) = Contains rules rule × (rule.kind ≡ Constraint)
 
 -- What may not all hold.
-abbrev pub signs_of : Join → Completion → List Signed
-signs_of j (whole_body b) = minus (body b) ∷ parts_of b
-signs_of j (part_of_body b part) = plus (body b) ∷ turned part ∷ []
-signs_of j (no_condition t) = plus (tuple t) ∷ map (λ c. minus (body c)) t.conditions
-signs_of j (condition_of_tuple t c) = plus (body c) ∷ minus (tuple t) ∷ []
-signs_of j (unsupported a) = plus (atom a) ∷ false_bodies (λ rule. has_head_in (nat_eq a) rule.head) j.rules
-signs_of j (no_head rule h) = plus (body (body_of rule)) ∷ minus (atom h) ∷ []
-signs_of j (broken rule) = plus (body (body_of rule)) ∷ []
+abbrev pub signs_of : List GroundRule → Completion → List Signed
+signs_of rules (whole_body b) = minus (body b) ∷ parts_of b
+signs_of rules (part_of_body b part) = plus (body b) ∷ turned part ∷ []
+signs_of rules (no_condition t) = plus (tuple t) ∷ map (λ c. minus (body c)) t.conditions
+signs_of rules (condition_of_tuple t c) = plus (body c) ∷ minus (tuple t) ∷ []
+signs_of rules (unsupported a) = plus (atom a) ∷ false_bodies (λ rule. has_head_in (nat_eq a) rule.head) rules
+signs_of rules (no_head rule h) = plus (body (body_of rule)) ∷ minus (atom h) ∷ []
+signs_of rules (broken rule) = plus (body (body_of rule)) ∷ []
 
 pub record IsCompletionNogood (j : Join) (things : List Thing) (nogood : Nogood) : Type 0 where
   pub says : Completion
-  pub of_join : IsOf j says
-  pub is : IsNogoodOf things (signs_of j says) nogood
+  pub of_join : IsOf (IsThing j.atoms j.rules) (IsOutput j) j.rules says
+  pub is : IsNogoodOf things (signs_of j.rules says) nogood
+
+-- One that a module brings, where these things are new: that of a new body or tuple, of a head of the module, or of one of
+-- its rules.
+pub record IsNewCompletion (m : GroundModule) (things more : List Thing) (nogood : Nogood) : Type 0 where
+  pub says : Completion
+  pub of_module : IsOf (Contains more) (Contains m.heads) (added_rules m) says
+  pub is : IsNogoodOf things (signs_of (added_rules m) says) nogood
