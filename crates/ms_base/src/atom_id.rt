@@ -1,7 +1,7 @@
 use std::marker::Model;
 
 /// The number of an atom: its place in the base, from 0. Contracts see it as that number.
-#[derive(Clone, Copy, Debug, PartialEq, Eq, PartialOrd, Ord)]
+#[derive(Clone, Copy, Debug, PartialEq, Eq, PartialOrd, Ord, Hash)]
 pub struct AtomId(pub u32);
 
 impl Model for AtomId {

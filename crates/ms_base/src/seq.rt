@@ -1,8 +1,12 @@
-ghost use Rattle.std.specs.Prelude.{◌≡◌, ◌∷◌, [], ◌++◌, length, IsTrue, ◌↔◌, OnOk, OnErr, IfErr, IfOk};
+ghost use Rattle.std.specs.Prelude.{◌≡◌, ◌∷◌, [], ◌++◌, length, take, slice_get, slice_index_or, slice_set, option_copied, option_to_list, IsSome, IsTrue, ◌<◌, ◌-◌, ◌↔◌, OnOk, OnErr, IfErr, IfOk};
+ghost use Rattle.std.specs.List.{swap_remove};
 ghost use Rattle.std.specs.Cmp.Lexicographic.{pointwise, slice_cmp, slice_partial_cmp, lists_equiv, lists_agrees, lists_total, lists_ties, lists_po, lists_per};
+ghost use Rattle.std.specs.Hash as fed;
+ghost use Rattle.std.specs.Hash.{items_Alike};
 
 use std::alloc::{AllocError, AllocFailed, Global};
 use std::cmp::Ordering;
+use std::hash::{Hash, Hasher};
 use std::marker::Model;
 
 /// A list. Contracts see it as the list of its elements, at every depth.
@@ -30,6 +34,15 @@ impl<T> Seq<T> {
         Seq {
             items: Vec::new(alloc),
         }
+    }
+
+    /// The empty list, with room for so many elements.
+    pub fn with_capacity(alloc: Global, capacity: usize) -> Result<Self, AllocError>
+        ensures { IfOk result (λ list. list ≡ []) }
+    {
+        Ok(Seq {
+            items: Vec::with_capacity(alloc, capacity)?,
+        })
     }
 
     /// The list of a vector's elements, which takes no memory.
@@ -72,16 +85,82 @@ impl<T> Seq<T> {
     {
         self.items.push(item)
     }
+
+    /// The last element, or `None` where there is none.
+    pub fn last(&self) -> Option<&T>
+        ensures { option_copied result ≡ slice_get self.now (length self.now - 1) }
+    {
+        self.items.last()
+    }
+
+    /// The element at a place, counted from 0, or `None` past the end.
+    pub fn get(&self, place: usize) -> Option<&T>
+        ensures { option_copied result ≡ slice_get self.now place }
+    {
+        self.items.get(place)
+    }
+
+    /// Takes the last element off, or leaves the empty list as it is.
+    pub fn pop(&mut self) -> Option<T>
+        ensures taken { self.old ≡ self.new ++ option_to_list result }
+        ensures found { IsSome result ↔ (0 < length self.old) }
+    {
+        self.items.pop()
+    }
+
+    /// Takes an element out, and the last one takes its place.
+    pub fn swap_remove(&mut self, place: usize) -> T
+        requires { place < length self.old }
+        ensures taken { result ≡ slice_index_or self.old place result }
+        ensures left { self.new ≡ swap_remove self.old place result }
+    {
+        self.items.swap_remove(place)
+    }
+
+    /// Moves the elements of the other list to the end, or leaves both lists where there is no memory for it.
+    pub fn append(&mut self, other: &mut Self) -> Result<(), AllocError>
+        ensures ok { OnOk result (self.new ≡ self.old ++ other.old) }
+        ensures moved { OnOk result (other.new ≡ []) }
+        ensures err { OnErr result (self.new ≡ self.old) }
+        ensures back { OnErr result (other.new ≡ other.old) }
+    {
+        self.items.append(&mut other.items)
+    }
 }
 
-impl Seq<u8> {
-    /// The bytes of a slice.
-    pub fn copied(alloc: Global, bytes: &[u8]) -> Result<Self, AllocError>
-        ensures { IfOk result (λ copy. copy ≡ bytes.now) }
+impl<T: Drop> Seq<T> {
+    /// Puts an element in the place of another.
+    pub fn set(&mut self, place: usize, item: T)
+        requires { place < length self.old }
+        ensures { self.new ≡ slice_set self.old place item }
+    {
+        self.items[place] = item;
+    }
+
+    /// Keeps the first so many elements, or all where there are fewer.
+    pub fn truncate(&mut self, len: usize)
+        ensures { self.new ≡ take len self.old }
+    {
+        self.items.truncate(len);
+    }
+}
+
+impl<T: Copy> Seq<T> {
+    /// The elements of a slice.
+    pub fn copied(alloc: Global, items: &[T]) -> Result<Self, AllocError>
+        ensures { IfOk result (λ copy. copy ≡ items.now) }
     {
         Ok(Seq {
-            items: Vec::from_slice(alloc, bytes)?,
+            items: Vec::from_slice(alloc, items)?,
         })
+    }
+
+    /// Adds the elements of a slice at the end, or none where there is no memory for all.
+    pub fn extend_from_slice(&mut self, more: &[T]) -> Result<(), AllocError>
+        ensures ok { OnOk result (self.new ≡ self.old ++ more.now) }
+        ensures err { OnErr result (self.new ≡ self.old) }
+    {
+        self.items.extend_from_slice(more)
     }
 }
 
@@ -121,5 +200,16 @@ impl<T: Ord> Ord for Seq<T> {
 
     fn cmp(&self, other: &Self) -> Ordering {
         self.items.cmp(&other.items)
+    }
+}
+
+/// As a slice is hashed: the length, and then each element.
+impl<T: Hash> Hash for Seq<T> {
+    ghost hash_input = { fed.slice T.hash_input };
+
+    ghost respects_eq = { (items_Alike (record { fed = T.respects_eq })).fed };
+
+    fn hash<H: Hasher>(&self, state: &mut H) {
+        self.items.hash(state);
     }
 }

@@ -8,8 +8,8 @@ use Rattle.ms_join.specs.declared.ground_rule.GroundRule.{GroundRule}
 use Rattle.ms_join.specs.declared.ground_rule.Input.{Input}
 use Rattle.ms_join.specs.declared.ground_rule.Rules.{Rules}
 use Rattle.ms_join.specs.declared.ground_module.GroundModule.{GroundModule}
-use Rattle.ms_join.specs.declared.truth.Truth.{Truth}
-use Rattle.ms_join.specs.declared.truth.Truth.TheVariants.{True, False, Free}
+use Rattle.ms_base.specs.declared.truth.Truth.{Truth}
+use Rattle.ms_base.specs.declared.truth.Truth.TheVariants.{True, False, Free}
 use Rattle.ms_join.specs.AnswerSets.{IsAtomSet, IsRuleOver, AreRulesOver}
 
 -- The positive and the negated atoms of the rule are sets, as lists in rising order.

@@ -7,4 +7,3 @@ pub mod assumption;
 pub mod ground_module;
 pub mod ground_rule;
 pub mod join_fault;
-pub mod truth;

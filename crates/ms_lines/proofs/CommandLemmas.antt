@@ -7,8 +7,8 @@ use Rattle.ms_text.specs.declared.token.Token.{Token}
 use Rattle.ms_grammar.specs.declared.value.Value.{Value}
 use Rattle.ms_grammar.specs.Words.{Word, name, words_of}
 use Rattle.ms_call.specs.declared.command.Call.{Call}
-use Rattle.ms_join.specs.declared.truth.Truth.{Truth}
-use Rattle.ms_join.specs.declared.truth.Truth.TheVariants.{True, False, Free}
+use Rattle.ms_base.specs.declared.truth.Truth.{Truth}
+use Rattle.ms_base.specs.declared.truth.Truth.TheVariants.{True, False, Free}
 use Rattle.ms_call.specs.declared.command.Command.{Command}
 use Rattle.ms_call.specs.declared.command.Command.TheVariants.{Add, Ground, Assign, Release, Solve}
 use Rattle.ms_call.specs.Commands.{IsSaid, IsAssign, IsAtom, IsCall, AreSome, truth_name}

@@ -6,8 +6,8 @@ use Rattle.std.proofs.lemmas.List.{take_more, get_or-take, length-take}
 use Rattle.std.proofs.lemmas.List.Elements.{All-contains, Contains-append_left, Contains-push, Contains-push_cases}
 use Rattle.std.proofs.lemmas.List.Kept.{AllPairs-from_increasing}
 use Rattle.ms_join.specs.declared.ground_rule.Input.{Input}
-use Rattle.ms_join.specs.declared.truth.Effect.{Effect}
-use Rattle.ms_join.specs.declared.truth.Effect.TheVariants.{Done, NoEffect}
+use Rattle.ms_base.specs.declared.truth.Effect.{Effect}
+use Rattle.ms_base.specs.declared.truth.Effect.TheVariants.{Done, NoEffect}
 use Rattle.ms_join.specs.Modules.{Join, IsInput}
 use Rattle.ms_module.specs.Inputs.{Releases, Declares, Withdraws}
 

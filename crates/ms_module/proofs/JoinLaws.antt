@@ -10,8 +10,8 @@ use Rattle.ms_join.specs.declared.ground_rule.GroundKind.{GroundKind}
 use Rattle.ms_join.specs.declared.ground_rule.GroundKind.TheVariants.{Normal, Choice, Constraint}
 use Rattle.ms_join.specs.declared.ground_rule.Input.{Input}
 use Rattle.ms_join.specs.declared.ground_module.GroundModule.{GroundModule}
-use Rattle.ms_join.specs.declared.truth.Effect.{Effect}
-use Rattle.ms_join.specs.declared.truth.Effect.TheVariants.{Done, NoEffect}
+use Rattle.ms_base.specs.declared.truth.Effect.{Effect}
+use Rattle.ms_base.specs.declared.truth.Effect.TheVariants.{Done, NoEffect}
 use Rattle.ms_join.specs.AnswerSets.{HasHead, IsRuleOver}
 use Rattle.ms_join.specs.Composability.{Body, IsTooMany, most_things}
 use Rattle.ms_join.specs.Modules.{Join, IsInput, IsJoin, IsJoined, IsWellFormed, no_join}

@@ -1,8 +1,8 @@
 -- The inputs of a join, each with its place.
 use Rattle.std.specs.Prelude.{ℕ, ◌≡◌, ◌≢◌, ◌↔◌, ◌<◌, ◌≤◌, ◌⊎◌, Bool, false, List, Option, Some, All, AllPairs, Contains, length, slice_index, slice_index_or}
 use Rattle.ms_join.specs.declared.ground_rule.Input.{Input}
-use Rattle.ms_join.specs.declared.truth.Effect.{Effect}
-use Rattle.ms_join.specs.declared.truth.Effect.TheVariants.{Done, NoEffect}
+use Rattle.ms_base.specs.declared.truth.Effect.{Effect}
+use Rattle.ms_base.specs.declared.truth.Effect.TheVariants.{Done, NoEffect}
 use Rattle.ms_join.specs.Modules.{Join, IsInput, IsAssigned, IsReleased}
 
 -- The place of each input's atom is the input's number.

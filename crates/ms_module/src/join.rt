@@ -15,7 +15,7 @@ use ms_base::memory::OutOfMemory;
 use ms_cone::Dependencies;
 use ms_join::ground_module::GroundModule;
 use ms_join::ground_rule::Rules;
-use ms_join::truth::{Effect, Truth};
+use ms_base::truth::{Effect, Truth};
 use std::alloc::Global;
 use std::marker::Model;
 

@@ -14,7 +14,7 @@ pub use ms_join::ground_rule::{
     AtomIds, GroundKind, GroundRule, GroundRules, Input, Inputs, Rules,
 };
 pub use ms_join::join_fault::JoinFault;
-pub use ms_join::truth::{Effect, Truth};
+pub use ms_base::truth::{Effect, Truth};
 pub use scratch::Scratch;
 
 /// A set of atoms: their numbers in rising order.

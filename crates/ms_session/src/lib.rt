@@ -11,5 +11,5 @@ mod text;
 mod value_term;
 
 pub use ms_base::memory::OutOfMemory;
-pub use ms_join::truth::{Effect, Truth};
+pub use ms_base::truth::{Effect, Truth};
 pub use session::Session;
