@@ -11,7 +11,8 @@ use Rattle.ms_lits.specs.Literals.{Nogood, opposite_of}
 use Rattle.ms_lits.specs.Assignment.{Assignment, HoldsIn, IsAssignment, IsUnitIn, IsWholeIn, entry_of, place_in}
 use Rattle.ms_nogood.specs.Store.{Store, Stored, nogood_at}
 use Rattle.ms_nogood.specs.Propagation.{IsWholeAt}
-use Rattle.ms_analyze.specs.Analysis.{AreFixed, AreReasoned, HasLevel, HasTemporaryReason, IsTemporaryAt, is_temporary}
+use Rattle.ms_refutation.specs.Sets.{AreReasoned}
+use Rattle.ms_analyze.specs.Analysis.{AreFixed, HasLevel, HasTemporaryReason, IsTemporaryAt, is_temporary}
 use Rattle.ms_analyze.specs.Cuts.{HasPlace, IsAssignedAt, IsCut, entry_at, level_at, lit_at, marked, no_entry}
 use Rattle.ms_analyze.proofs.Marked.{marked_all, marked_has, marked_keeps}
 use Rattle.ms_analyze.proofs.Resolved.{All-last, cut_start, cut_step}

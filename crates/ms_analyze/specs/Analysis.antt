@@ -7,7 +7,6 @@ use Rattle.ms_lits.specs.declared.trail.Entry.{Entry}
 use Rattle.ms_lits.specs.Literals.{IsDerived, Nogood}
 use Rattle.ms_lits.specs.Assignment.{Assignment, IsUnitIn, entry_of, up_to}
 use Rattle.ms_nogood.specs.Store.{Store, Stored, nogood_at}
-use Rattle.ms_nogood.specs.Propagation.{IsForced}
 use Rattle.ms_nogood.specs.declared.kind.Kind.{Kind}
 use Rattle.ms_nogood.specs.declared.kind.Kind.TheVariants.{Base, Kept, Temporary, Reason}
 
@@ -26,10 +25,6 @@ pub record IsBelow (entries : List Entry) (level : ℕ) (lit : Lit) : Type 0 whe
   pub lower : ℕ
   pub of_level : level_in entries lit ≡ Some lower
   pub below : lower < level
-
--- Each entry has no reason, or its reason is a nogood of the store that was unit in the entries before it.
-abbrev pub AreReasoned : Store → List Entry → Type 0
-AreReasoned store entries = (i : ℕ) (d : Entry) → i < length entries → ((slice_index_or entries i d).reason ≡ None) ⊎ IsForced store (slice_index_or entries i d).level (take i entries) (slice_index_or entries i d)
 
 -- Of the entries of this level only the first may be without a reason.
 abbrev pub IsOnlyDecision : ℕ → List Entry → Type 0

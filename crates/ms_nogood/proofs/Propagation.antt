@@ -162,7 +162,7 @@ settled_from store entries calm =
           w.nogood w.among w.whole;
     }
 
-awake_same : (stored s : Stored) → awake_in (Some stored) ≡ Some s → stored ≡ s
+pub awake_same : (stored s : Stored) → awake_in (Some stored) ≡ Some s → stored ≡ s
 awake_same stored s is = elim (cases_Bool (is_some stored.kind)) [
   | inl awake ↦ (let here : Some stored ≡ Some s = sym (cond-true (is_some stored.kind) (Some stored) None awake) ∙ is in cc)
   | inr asleep ↦ (let here : None ≡ Some s = sym (cond-false (is_some stored.kind) (Some stored) None asleep) ∙ is in cc)

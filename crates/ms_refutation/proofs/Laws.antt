@@ -48,7 +48,7 @@ Contains-more : (x lit : Lit) (xs : Nogood) → Contains xs lit → Contains (x 
 Contains-more x lit xs (k, h, e) = (suc k, omega arith, e)
 
 -- Either the literal is among these, or all of them are in the set.
-among_or_whole : (set : Lit → Bool) (lit : Lit) (small : Nogood) → AllByRecursion (λ other. (other ≡ lit) ⊎ IsTrue (set other)) small → Contains small lit ⊎ AllByRecursion (λ other. IsTrue (set other)) small
+pub among_or_whole : (set : Lit → Bool) (lit : Lit) (small : Nogood) → AllByRecursion (λ other. (other ≡ lit) ⊎ IsTrue (set other)) small → Contains small lit ⊎ AllByRecursion (λ other. IsTrue (set other)) small
 among_or_whole set lit [] all = inr tt
 among_or_whole set lit (x ∷ xs) all = elim all.0 [
   | inl same ↦ inl (0, omega arith, same)
