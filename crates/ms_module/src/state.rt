@@ -7,9 +7,9 @@ ghost use Rattle.ms_module.specs.Inputs.{IsInputAt, Assigns, Releases, AreInputs
 use ms_base::atom_id::AtomId;
 use ms_base::memory::OutOfMemory;
 use ms_base::seq::Seq;
+use ms_base::truth::{Effect, Truth};
 use ms_join::ground_module::GroundModule;
 use ms_join::ground_rule::{GroundRules, Input, Rules};
-use ms_base::truth::{Effect, Truth};
 use std::alloc::Global;
 use std::marker::Model;
 use std::mem;
