@@ -1,7 +1,7 @@
 use std::marker::Model;
 
 /// The name of a term: its place in the table, from 0. Contracts see it as that number.
-#[derive(Clone, Copy, Debug, Default, PartialEq, Eq, Hash)]
+#[derive(Clone, Copy, Debug, Default, PartialEq, Eq, PartialOrd, Ord, Hash)]
 pub struct TermId(pub usize);
 
 impl Model for TermId {
