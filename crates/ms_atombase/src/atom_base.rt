@@ -4,7 +4,7 @@ ghost use Rattle.ms_atombase.specs.Bases.{IsPlaceOf, Interns};
 use indexmap::IndexSet;
 use ms_base::atom_id::AtomId;
 use ms_base::memory::OutOfMemory;
-use ms_term::TermId;
+use ms_term::{MOST_SYMBOLS, TermId, Terms};
 use std::alloc::Global;
 use std::marker::Model;
 
@@ -82,6 +82,23 @@ impl AtomBase {
     {
         let place = self.atoms.get_index_of(&t)?;
         Some(AtomId(place as u32))
+    }
+
+    /// Whether some atom is large, as it has more than 2,000 symbols. Where no term of the table is, it costs no
+    /// walk over the atoms.
+    pub fn has_large(&self, terms: &Terms) -> bool
+        requires { All (λ t. t < length terms.now) self.now }
+        ensures { IsTrue result ↔ Any (λ t. IsLarge (term_at terms.now t)) self.now }
+    {
+        let Some(first) = terms.first_large() else {
+            return false;
+        };
+        for term in self.atoms.as_slice() {
+            if *term >= first && terms.size(*term) > MOST_SYMBOLS {
+                return true;
+            }
+        }
+        false
     }
 
     /// The number of the atom with this term. A new one goes last. Where there is no memory for it the base
