@@ -13,3 +13,4 @@ pub mod Texts
 pub mod FrontLaws
 pub mod Bounds
 pub mod PrintFronts
+pub mod Whole

@@ -43,6 +43,15 @@ pub record IsNameOf (ts : List Tree) (t : Tree) (i : ℕ) : Type 0 where
 abbrev pub HasNo : List Tree → Tree → Type 0
 HasNo ts t = (i : ℕ) → i < length ts → ¬ (term_at ts i ≡ t)
 
+-- the table has each of the terms side by side
+abbrev pub HasEach : List Tree → Trees → Type 0
+HasEach ts no_tree = ⊤
+HasEach ts (tree t rest) = (¬ HasNo ts t) × HasEach ts rest
+
+-- the arguments of each function of the table are in the table
+abbrev pub AreWhole : List Tree → Type 0
+AreWhole ts = (i : ℕ) (f : List ℕ) (args : Trees) → i < length ts → term_at ts i ≡ function f args → HasEach ts args
+
 -- the number of symbols from which on a term is large
 abbrev pub most_symbols : ℕ
 most_symbols = 2000

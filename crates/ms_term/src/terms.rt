@@ -3,7 +3,7 @@ ghost use Rattle.std.specs.Prelude.{◌≡◌, ◌+◌, ◌<◌, ◌≤◌, [], 
 ghost use Rattle.ms_tree.specs.Tree.{number, text, function};
 ghost use Rattle.ms_tree.specs.Size.{tree_size, sizes};
 ghost use Rattle.ms_term.specs.Shapes.{IsShapeOf};
-ghost use Rattle.ms_term.specs.Terms.{term_at, terms_at, held, AllBelow, AllDifferent, AreSmall, Names, HasNo, IsNameOf, IsFirstLarge, number_in, text_in, name_in, arguments_in};
+ghost use Rattle.ms_term.specs.Terms.{term_at, terms_at, held, AllBelow, AllDifferent, AreSmall, AreWhole, Names, HasNo, IsNameOf, IsFirstLarge, number_in, text_in, name_in, arguments_in};
 
 use crate::node::{Arguments, Node};
 use crate::shape::Shape;
@@ -70,6 +70,7 @@ impl Terms {
     pub fn len(&self) -> usize
         ensures len { result ≡ length self.now }
         ensures different { AllDifferent self.now }
+        ensures whole { AreWhole self.now }
     {
         self.table.nodes.len()
     }
