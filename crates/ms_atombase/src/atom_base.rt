@@ -1,4 +1,5 @@
-ghost use Rattle.std.specs.Prelude.{◌≡◌, ℕ, ◌<◌, ◌≤◌, ◌++◌, ◌∷◌, [], Some, IsTrue, ◌↔◌, length, take, slice_get, Contains, MatchOption, OnOk, OnErr, IfOk};
+ghost use Rattle.std.specs.Prelude.{◌≡◌, ◌<◌, ◌≤◌, [], All, Any, Some, IsTrue, ◌↔◌, length, take, slice_get, Contains, MatchOption, OnErr, IfOk};
+ghost use Rattle.ms_term.specs.Terms.{term_at, IsLarge};
 ghost use Rattle.ms_atombase.specs.Bases.{IsPlaceOf, Interns};
 
 use indexmap::IndexSet;
@@ -84,21 +85,13 @@ impl AtomBase {
         Some(AtomId(place as u32))
     }
 
-    /// Whether some atom is large, as it has more than 2,000 symbols. Where no term of the table is, it costs no
-    /// walk over the atoms.
+    /// Whether some atom is large, as it has more than 2,000 symbols. While the table has no large term it
+    /// costs no walk over the atoms.
     pub fn has_large(&self, terms: &Terms) -> bool
         requires { All (λ t. t < length terms.now) self.now }
         ensures { IsTrue result ↔ Any (λ t. IsLarge (term_at terms.now t)) self.now }
     {
-        let Some(first) = terms.first_large() else {
-            return false;
-        };
-        for term in self.atoms.as_slice() {
-            if *term >= first && terms.size(*term) > MOST_SYMBOLS {
-                return true;
-            }
-        }
-        false
+        terms.first_large().is_some() && any_large(terms, self.atoms.as_slice())
     }
 
     /// The number of the atom with this term. A new one goes last. Where there is no memory for it the base
@@ -126,4 +119,16 @@ impl AtomBase {
     {
         self.atoms.truncate(mark.len as usize);
     }
+}
+
+fn any_large(terms: &Terms, atoms: &[TermId]) -> bool
+    requires { All (λ t. t < length terms.now) atoms.now }
+    ensures { IsTrue result ↔ Any (λ t. IsLarge (term_at terms.now t)) atoms.now }
+{
+    for atom in atoms {
+        if terms.size(*atom) > MOST_SYMBOLS {
+            return true;
+        }
+    }
+    false
 }
