@@ -19,7 +19,8 @@ use Rattle.ms_things.specs.Completion.Completion.{whole_body, part_of_body, no_c
 use Rattle.ms_things.specs.Numbers.{AreThings, IsMadeOf}
 use Rattle.ms_things.specs.Signs.{IsFor, IsNogoodOf, Signed, minus, plus, turned}
 use Rattle.ms_loops.proofs.Founding.{head_of, if_at}
-use Rattle.ms_loops.proofs.Members.{any_at, contains_here, contains_later, member_at, place_of}
+use Rattle.ms_base.proofs.Lists.{Contains-behind, Contains-cases, Contains-first}
+use Rattle.ms_loops.proofs.Members.{any_at, member_at, place_of}
 use Rattle.ms_loops.proofs.Unfounded.{head_below}
 
 -- ---- numbers of old things
@@ -144,17 +145,13 @@ module _ {X : Type 0} (test : X → Bool) (xs ys : List X) where
   back_alone : All (λ x. test x ≡ false) xs → filter test (xs ++ ys) ≡ filter test ys
   back_alone none = filter-append test xs ys ∙ ap (λ zs. zs ++ filter test ys) (filter_none test xs none)
 
-contains_cases : {X : Type 0} (x : X) (xs : List X) (y : X) → Contains (x ∷ xs) y → (x ≡ y) ⊎ Contains xs y
-contains_cases x xs y (zero, within, at) = inl at
-contains_cases x xs y (suc k, within, at) = inr (k, omega (arith, within), at)
-
 contains_or_not : (xs : List ℕ) (a : ℕ) → Contains xs a ⊎ (¬ Contains xs a)
 contains_or_not [] a = inr (λ (k, within, at). absurd (omega (arith, within)))
 contains_or_not (x ∷ xs) a = elim (cases_eq x a) [
-  | inl same ↦ inl (subst (Contains (x ∷ xs)) same (contains_here x xs))
+  | inl same ↦ inl (subst (Contains (x ∷ xs)) same (Contains-first x xs))
   | inr differ ↦ elim (contains_or_not xs a) [
-    | inl there ↦ inl (contains_later x a xs there)
-    | inr apart ↦ inr (λ there. elim (contains_cases x xs a there) [ inl same ↦ differ same | inr later ↦ apart later ])
+    | inl there ↦ inl (Contains-behind x xs a there)
+    | inr apart ↦ inr (λ there. elim (Contains-cases x xs a there) [ inl same ↦ differ same | inr later ↦ apart later ])
   ]
 ]
 
