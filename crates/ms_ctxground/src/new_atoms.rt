@@ -9,8 +9,7 @@ use ms_atombase::AtomBase;
 use ms_core::rule::RuleKind;
 use ms_instances::Instance;
 use ms_join::ground_module::TermIds;
-use ms_term::in_term_order;
-use ms_term::{OutOfMemory, TermId, Terms};
+use ms_term::{OutOfMemory, TermId, Terms, in_term_order};
 use std::alloc::Global;
 
 /// The heads of normal rules and choices, in the order of the instances.
