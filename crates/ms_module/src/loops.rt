@@ -40,8 +40,11 @@ impl Join {
         ensures { IfOk result (FindsLoop (names_of terms.now base.now) self.now m.now) }
     {
         let starts = self.old_among(alloc, m.heads.as_slice())?;
+        if starts.is_empty() {
+            return Ok(None);
+        }
         let rules = m.rules.as_slice();
-        let cone = Cone::reaching(
+        let cone = Cone::around(
             alloc,
             &self.dependencies,
             rules,

@@ -4,6 +4,7 @@ ghost use Rattle.ms_join.specs.AnswerSets.{IsAtomSet};
 ghost use Rattle.ms_join.specs.Modules.{IsInput, IsJoined, IsOutput, IsWellFormed, no_join, rules_of, value_of};
 ghost use Rattle.ms_module.specs.Inputs.{IsInputAt, Assigns, Releases, AreInputs, Declares, Withdraws};
 
+use crate::copies::copy_rules;
 use ms_base::atom_id::AtomId;
 use ms_base::memory::OutOfMemory;
 use ms_base::seq::Seq;
@@ -124,16 +125,17 @@ impl State {
         Effect::Done
     }
 
-    /// Adds a module.
-    pub fn add(&mut self, m: GroundModule) -> Result<(), OutOfMemory>
-        requires well_formed { IsWellFormed self.old.atoms m }
-        requires few { self.old.atoms + m.fresh < 2 ^ 32 }
+    /// Adds a module, of which the rules are copied.
+    pub fn add(&mut self, m: &GroundModule) -> Result<(), OutOfMemory>
+        requires well_formed { IsWellFormed self.old.atoms m.now }
+        requires few { self.old.atoms + m.now.fresh < 2 ^ 32 }
         requires inputs { All (λ i. i.atom < self.old.atoms) self.old.inputs }
-        ensures joined { OnOk result (IsJoined self.old m self.new) }
+        ensures joined { OnOk result (IsJoined self.old m.now self.new) }
         ensures inputs { OnOk result (AreInputs self.new) }
     {
-        self.add_atoms(&m)?;
-        self.append(m.rules)?;
+        self.add_atoms(m)?;
+        let rules = copy_rules(self.alloc, m.rules.as_slice())?;
+        self.append(rules)?;
         Ok(())
     }
 

@@ -1,9 +1,9 @@
 use Rattle.std.proofs.Common.{◌≡◌, ◌+◌, append_assoc, ◌++◌, ◌∷◌, [], List, subst, sym, ap, ◌∙◌, take}
 use Rattle.std.proofs.lemmas.List.{take_more}
 use Rattle.ms_join.specs.declared.ground_rule.GroundRule.{GroundRule}
-use Rattle.ms_cone.specs.Uses.{Keeps}
+use Rattle.ms_cone.specs.Dependencies.{Keeps}
 use Rattle.ms_cone.proofs.Adding.{keeps_more}
-use Rattle.ms_cone.proofs.uses.Dependencies.add.Goals as goal
+use Rattle.ms_cone.proofs.dependencies.Dependencies.add.Goals as goal
 
 pub loop-rule-preserved : goal.loop-rule-preserved
 loop-rule-preserved c before keeps =
