@@ -101,7 +101,8 @@ impl Join {
         rules: &[GroundRule],
     ) -> Result<bool, OutOfMemory>
         requires { ArePlain rules.now }
-        ensures { IfOk result (λ many. IsTrue many ↔ HasTooMany atoms (self.now.rules ++ rules.now)) }
+        ensures tells { IfOk result (λ many. IsTrue many ↔ HasTooMany atoms (self.now.rules ++ rules.now)) }
+        ensures plain { IfOk result (λ many. ArePlain (self.now.rules ++ rules.now)) }
     {
         let bodies = self.bodies.count_with(alloc, rules)?;
         Ok(bodies.saturating_add(atoms as usize) > MOST_THINGS)

@@ -3,7 +3,7 @@ ghost use Rattle.std.specs.Prelude.{◌≡◌, IfOk};
 
 use ms_base::memory::OutOfMemory;
 use ms_base::seq::Seq;
-use ms_join::aggregate::{GroundElement, GroundElements, SignedAgg, SignedAggs, GroundAgg};
+use ms_join::aggregate::{GroundAgg, GroundElement, GroundElements, SignedAgg, SignedAggs};
 use ms_join::ground_rule::{GroundRule, GroundRules};
 use std::alloc::Global;
 
@@ -53,10 +53,7 @@ fn copy_signed(alloc: Global, signed: &SignedAgg) -> Result<SignedAgg, OutOfMemo
     })
 }
 
-fn copy_elements(
-    alloc: Global,
-    elements: &[GroundElement],
-) -> Result<GroundElements, OutOfMemory>
+fn copy_elements(alloc: Global, elements: &[GroundElement]) -> Result<GroundElements, OutOfMemory>
     ensures { IfOk result (λ copies. copies ≡ elements.now) }
 {
     let mut copies = Seq::with_capacity(alloc, elements.len())?;

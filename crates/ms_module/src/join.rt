@@ -13,10 +13,10 @@ use crate::bodies::Bodies;
 use crate::state::State;
 use ms_base::atom_id::AtomId;
 use ms_base::memory::OutOfMemory;
+use ms_base::truth::{Effect, Truth};
 use ms_cone::Dependencies;
 use ms_join::ground_module::GroundModule;
 use ms_join::ground_rule::Rules;
-use ms_base::truth::{Effect, Truth};
 use std::alloc::Global;
 use std::marker::Model;
 

@@ -1,16 +1,17 @@
 // The rules and inputs of a join.
-ghost use Rattle.std.specs.Prelude.{◌≡◌, ℕ, ◌+◌, ◌^◌, ◌<◌, ◌↔◌, ◌∷◌, [], ◌++◌, Some, false, IsTrue, All, MatchOption, OnOk, Contains};
+ghost use Rattle.std.specs.Prelude.{◌≡◌, ℕ, ◌+◌, ◌^◌, ◌<◌, ◌↔◌, ◌∷◌, [], ◌++◌, Some, false, IsTrue, All, IfOk, MatchOption, OnOk, Contains};
 ghost use Rattle.ms_join.specs.AnswerSets.{IsAtomSet};
 ghost use Rattle.ms_join.specs.Modules.{IsInput, IsJoined, IsOutput, IsWellFormed, no_join, rules_of, value_of};
+ghost use Rattle.ms_module.specs.Faults.{AreThose};
 ghost use Rattle.ms_module.specs.Inputs.{IsInputAt, Assigns, Releases, AreInputs, Declares, Withdraws};
 
 use crate::copies::copy_rules;
 use ms_base::atom_id::AtomId;
 use ms_base::memory::OutOfMemory;
 use ms_base::seq::Seq;
+use ms_base::truth::{Effect, Truth};
 use ms_join::ground_module::GroundModule;
 use ms_join::ground_rule::{GroundRules, Input, Rules};
-use ms_base::truth::{Effect, Truth};
 use std::alloc::Global;
 use std::marker::Model;
 use std::mem;
@@ -28,6 +29,7 @@ pub(crate) struct State {
 impl Model for State {
     ghost use Rattle.std.specs.Prelude.{length};
     ghost use Rattle.ms_join.specs.Modules.{Join};
+    ghost use Rattle.ms_module.specs.Faults.{AreThose};
     ghost use Rattle.ms_module.specs.Inputs.{ArePlaced};
 
     ghost Value = { Join };
@@ -87,6 +89,19 @@ impl State {
         ensures { IsTrue result ↔ (a < self.now.atoms) }
     {
         (a.0 as usize) < self.places.len()
+    }
+
+    /// Those of the atoms that the base has.
+    pub fn old_among(&self, alloc: Global, atoms: &[AtomId]) -> Result<Vec<AtomId>, OutOfMemory>
+        ensures { IfOk result (λ v. AreThose atoms.now (λ a. a < self.now.atoms) v.items) }
+    {
+        let mut found = Vec::new(alloc);
+        for a in atoms {
+            if self.has_atom(*a) {
+                found.push(*a)?;
+            }
+        }
+        Ok(found)
     }
 
     pub fn is_output(&self, a: AtomId) -> bool

@@ -1,18 +1,17 @@
-use Rattle.std.proofs.Common.{◌<◌, ◌↔◌, IsTrue, subst}
+use Rattle.std.proofs.Common.{◌<◌}
 use Rattle.ms_module.proofs.Chosen.{those_pushed, those_passed, those_whole}
-use Rattle.ms_join.specs.Modules.{Join}
-use Rattle.ms_module.proofs.join.Join.old_among.Goals as goal
-use Rattle.ms_module.proofs.join.Join.old_among.Goals.{then-has_atom+in_ok-push, else-has_atom}
+use Rattle.ms_module.proofs.state.State.old_among.Goals as goal
+use Rattle.ms_module.proofs.state.State.old_among.Goals.{then-has_atom+in_ok-push, else-has_atom}
 
 pub loop-a-preserved : goal.loop-a-preserved
 loop-a-preserved c =
     elim c.if-has_atom.branch [
       | then-has_atom+in_ok-push w ↦
           those_pushed c.args.atoms.now (λ a. a < c.args.self.now.atoms) c.loop-a.a-index c.a-item.result c.loop-a.found w.push.new.self c.if-has_atom.found
-          w.found-is w.in_ok-push.ensures.items c.loop-a.invariant c.loop-a-test.true c.a-item.is ((subst (λ (j : Join). IsTrue c.has_atom.result ↔ (c.a-item.result < j.atoms)) c.self.view_is c.has_atom.ensures).0 w.if-has_atom.true)
+          w.found-is w.in_ok-push.ensures.items c.loop-a.invariant c.loop-a-test.true c.a-item.is (c.has_atom.ensures.0 w.if-has_atom.true)
       | else-has_atom w ↦
           those_passed c.args.atoms.now (λ a. a < c.args.self.now.atoms) c.loop-a.a-index c.a-item.result c.loop-a.found c.if-has_atom.found _
-          w.found-is c.loop-a.invariant c.loop-a-test.true c.a-item.is (subst (λ (j : Join). IsTrue c.has_atom.result ↔ (c.a-item.result < j.atoms)) c.self.view_is c.has_atom.ensures) w.if-has_atom.false
+          w.found-is c.loop-a.invariant c.loop-a-test.true c.a-item.is c.has_atom.ensures w.if-has_atom.false
     ]
 
 pub returns : goal.returns
