@@ -17,6 +17,7 @@ fn choice(alloc: Global, atom: AtomId) -> Result<GroundRule, OutOfMemory>
         head: Some(atom),
         pos: Seq::new(alloc),
         neg: Seq::new(alloc),
+        aggs: Seq::new(alloc),
     })
 }
 

@@ -59,6 +59,7 @@ fn rule_of(alloc: Global, row: TinyRule) -> Result<GroundRule, OutOfMemory>
         head,
         pos,
         neg,
+        aggs: Seq::new(alloc),
     })
 }
 
@@ -125,6 +126,7 @@ const fn tiny(head: Option<Atom>, pos: Option<Atom>, neg: Option<Atom>) -> TinyR
         head,
         pos,
         neg,
+        aggs: Seq::new(alloc),
     }
 }
 
@@ -134,6 +136,7 @@ const fn choice(head: Option<Atom>, pos: Option<Atom>, neg: Option<Atom>) -> Tin
         head,
         pos,
         neg,
+        aggs: Seq::new(alloc),
     }
 }
 

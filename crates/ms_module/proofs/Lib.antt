@@ -7,5 +7,7 @@ pub mod JoinLaws
 pub mod Leasts
 pub mod ConeLoops
 pub mod Orders
+pub mod PossibleLaws
+pub mod ThingLaws
 pub mod TooMany
 pub mod Verdicts

@@ -1,6 +1,7 @@
 // The test whether a module can be joined.
 ghost use Rattle.std.specs.Prelude.{◌≡◌, ℕ, ◌+◌, ◌<◌, ◌↔◌, ◌++◌, All, length, IsTrue, IfOk, MatchOption};
 ghost use Rattle.ms_term.specs.Terms.{trees};
+ghost use Rattle.ms_module.specs.Bodies.{ArePlain};
 ghost use Rattle.ms_join.specs.Composability.{Checks, HasTooMany, IsLeast, IsRedefined};
 ghost use Rattle.ms_join.specs.Modules.{IsOutput, IsWellFormed};
 ghost use Rattle.ms_module.specs.Names.{names_of};
@@ -10,6 +11,7 @@ use crate::join::Join;
 use crate::least::least;
 use ms_atombase::AtomBase;
 use ms_base::atom_id::AtomId;
+use ms_base::limits::MOST_THINGS;
 use ms_base::memory::OutOfMemory;
 use ms_join::ground_module::GroundModule;
 use ms_join::ground_rule::GroundRule;
@@ -17,12 +19,10 @@ use ms_join::join_fault::JoinFault;
 use ms_term::Terms;
 use std::alloc::Global;
 
-/// How many things a join may have.
-const MOST_THINGS: usize = 4_000_000;
-
 impl Join {
     /// Whether a module can be joined. The base is that of the join with the module's new atoms, and its terms are those
-    /// of the table. The time follows the module, and the part of the join that reaches an old atom with a new rule.
+    /// of the table. The time follows the module, and the lesser of what its heads that are in the base before
+    /// depend on and what depends on them.
     ///
     /// Errors: the first that holds of the faults, with the least atoms in term order, or want of memory.
     pub fn check(
@@ -100,7 +100,9 @@ impl Join {
         atoms: u32,
         rules: &[GroundRule],
     ) -> Result<bool, OutOfMemory>
-        ensures { IfOk result (λ many. IsTrue many ↔ HasTooMany atoms (self.now.rules ++ rules.now)) }
+        requires { ArePlain rules.now }
+        ensures tells { IfOk result (λ many. IsTrue many ↔ HasTooMany atoms (self.now.rules ++ rules.now)) }
+        ensures plain { IfOk result (λ many. ArePlain (self.now.rules ++ rules.now)) }
     {
         let bodies = self.bodies.count_with(alloc, rules)?;
         Ok(bodies.saturating_add(atoms as usize) > MOST_THINGS)

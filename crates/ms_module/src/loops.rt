@@ -39,9 +39,12 @@ impl Join {
         requires base { length base.now ≡ self.now.atoms + m.now.fresh }
         ensures { IfOk result (FindsLoop (names_of terms.now base.now) self.now m.now) }
     {
-        let starts = self.old_among(alloc, m.heads.as_slice())?;
+        let starts = self.state.old_among(alloc, m.heads.as_slice())?;
+        if starts.is_empty() {
+            return Ok(None);
+        }
         let rules = m.rules.as_slice();
-        let cone = Cone::reaching(
+        let cone = Cone::around(
             alloc,
             &self.dependencies,
             rules,
@@ -102,19 +105,6 @@ impl Join {
             Some(old) => Ok(Some(old)),
             None => Ok(None),
         }
-    }
-
-    /// The atoms that the base has.
-    fn old_among(&self, alloc: Global, atoms: &[AtomId]) -> Result<Vec<AtomId>, OutOfMemory>
-        ensures { IfOk result (λ v. AreThose atoms.now (λ a. a < self.now.atoms) v.items) }
-    {
-        let mut found = Vec::new(alloc);
-        for a in atoms {
-            if self.state.has_atom(*a) {
-                found.push(*a)?;
-            }
-        }
-        Ok(found)
     }
 
     /// The outputs in a cone.
