@@ -1,4 +1,5 @@
 mod AnswerSets
 mod Inputs
 mod LeastModel
+mod Lists
 mod Passing

@@ -1,2 +1,4 @@
 pub mod Flags
 pub mod LeastModel
+pub mod State
+pub mod Waiting

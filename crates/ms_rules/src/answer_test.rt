@@ -1,27 +1,29 @@
 // The test whether a set of atoms is an answer set.
-ghost use Rattle.std.specs.Prelude.{◌≡◌, ◌↔◌, IsTrue, All, length};
+ghost use Rattle.std.specs.Prelude.{◌≡◌, ◌↔◌, [], IsTrue, All, length};
 ghost use Rattle.ms_join.specs.AnswerSets.{Allows, AreRulesOver, IsAnswerSet, IsAtomSet, set_of};
 ghost use Rattle.ms_rules.specs.Flags.{flag_at};
 
 use crate::AtomSet;
-use crate::flags::{has_all, has_none, write_flags};
+use crate::flags::{has_all, side_holds, write_flags};
 use crate::least_model::mark_least_model;
 use crate::scratch::Scratch;
 use ms_join::ground_rule::{GroundKind, GroundRule, Rules};
 
 /// Whether the rule allows the set. A constraint doesn't where its body holds.
 fn allows(rule: &GroundRule, in_set: &[bool]) -> bool
+    requires { rule.now.aggs ≡ [] }
     ensures { IsTrue result ↔ Allows (flag_at in_set.now) rule.now.kind rule.now }
 {
     match rule.kind {
         GroundKind::Normal | GroundKind::Choice => true,
         GroundKind::Constraint => {
-            !(has_all(in_set, rule.pos.as_slice()) && has_none(in_set, rule.neg.as_slice()))
+            !(has_all(in_set, rule.pos.as_slice()) && side_holds(rule, in_set))
         }
     }
 }
 
 fn allows_each(rules: &[GroundRule], in_set: &[bool]) -> bool
+    requires { All (λ rule. rule.aggs ≡ []) rules.now }
     ensures { IsTrue result ↔ All (λ rule. Allows (flag_at in_set.now) rule.kind rule) rules.now }
 {
     rules.iter().all(|rule| allows(rule, in_set))

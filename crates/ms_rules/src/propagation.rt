@@ -1,0 +1,144 @@
+// The least model of the reduct of a join by a set, in time that is linear in the size of the rules.
+//
+// Each rule waits for one of its positive atoms that isn't marked. When an atom is marked, the rules that wait for it
+// go on to another, and each looks at each of its atoms once. A rule that looked at all asks for its head.
+ghost use Rattle.std.specs.Prelude.{ℕ, ◌≡◌, ◌+◌, ◌-◌, ◌<◌, ◌≤◌, ◌⊎◌, [], true, false, length, sum, slice_index, IfOk, MatchOption, MatchBool, IsTrue};
+ghost use Rattle.ms_join.specs.AnswerSets.{AreRulesOver, IsReductModel, Keeps};
+ghost use Rattle.ms_rules.specs.Flags.{flag_at};
+ghost use Rattle.ms_rules.specs.LeastModel.{IsLeastModel, MayAsk};
+ghost use Rattle.ms_rules.specs.State.{advanced, looked, marked, popped, pushed};
+ghost use Rattle.ms_rules.specs.Waiting.{AreWaiting, AsksNothing, IsSized, IsSound, IsStuck, Requires, body_at};
+
+use crate::flags::{is_marked, side_holds};
+use crate::least_model::{mark_inputs, may_ask};
+use ms_base::atom_id::AtomId;
+use ms_base::memory::OutOfMemory;
+use ms_join::ground_rule::{GroundRule, Rules};
+use std::alloc::Global;
+use std::marker::Model;
+
+/// The head that the rule asks for where its positive atoms are there.
+fn required_head(rule: &GroundRule, in_set: &[bool]) -> Option<AtomId>
+    requires { rule.now.aggs ≡ [] }
+    ensures { MatchOption result
+        (AsksNothing (flag_at in_set.now) rule.now)
+        (Requires (flag_at in_set.now) rule.now) }
+{
+    let head = rule.head?;
+    if may_ask(rule.kind, in_set, head) && side_holds(rule, in_set) {
+        Some(head)
+    } else {
+        None
+    }
+}
+
+/// How many of the first `left` atoms remain where those at their end that are marked are left out.
+fn skip_marked(atoms: &[AtomId], left: usize, derived: &[bool]) -> usize
+    requires { left ≤ length atoms.now }
+    ensures { IsStuck atoms.now (flag_at derived.now) left result }
+{
+    let mut rest = left;
+    while rest > 0 && is_marked(derived, atoms[rest - 1]) {
+        rest -= 1;
+    }
+    rest
+}
+
+/// The state of a propagation. Contracts see it as the record of its lists.
+#[derive(Debug, Drop)]
+pub(crate) struct Propagation {
+    /// For each atom whether it is marked.
+    derived: Vec<bool>,
+    /// For each atom the first rule that waits for it.
+    first: Vec<usize>,
+    /// For each rule how many of its positive atoms it didn't look at. It waits for the last of them.
+    left: Vec<usize>,
+    /// For each rule the one behind it that waits for the same atom. What is no rule's number ends the list.
+    next: Vec<usize>,
+    /// The heads that were marked, in this order, and from `taken` on those whose rules still wait.
+    queue: Vec<AtomId>,
+    queued: usize,
+    taken: usize,
+}
+
+impl Model for Propagation {
+    ghost use Rattle.ms_rules.specs.State.{State};
+
+    ghost Value = { State };
+
+    ghost view = { λ p. record { derived = p.derived.items; first = p.first.items; left = p.left.items; next = p.next.items; queue = p.queue.items; queued = p.queued; taken = p.taken } };
+}
+
+impl Propagation {
+    /// Room for so many atoms and rules.
+    pub(crate) fn new(alloc: Global, atoms: u32, rules: usize) -> Result<Propagation, OutOfMemory>
+        ensures { IfOk result (IsSized atoms rules) }
+    {
+        let count = atoms as usize;
+        Ok(Propagation {
+            derived: vec![in alloc; false; count]?,
+            first: vec![in alloc; 0; count]?,
+            left: vec![in alloc; 0; rules]?,
+            next: vec![in alloc; 0; rules]?,
+            queue: vec![in alloc; AtomId(0); count]?,
+            queued: 0,
+            taken: 0,
+        })
+    }
+
+    /// Puts the rule before those that wait for the atom.
+    fn push(&mut self, atom: AtomId, rule: usize)
+        requires atom { atom < length self.old.first }
+        requires rule { rule < length self.old.next }
+        ensures { self.new ≡ pushed self.old atom rule }
+    {
+        let list = atom.0 as usize;
+        self.next[rule] = self.first[list];
+        self.first[list] = rule;
+    }
+
+    /// Takes the first of the rules that wait for the atom.
+    fn pop(&mut self, atom: AtomId) -> Option<usize>
+        requires { atom < length self.old.first }
+        ensures { MatchOption result
+            ((length self.old.next ≤ slice_index self.old.first atom) × (self.new ≡ self.old))
+            (λ k. (k < length self.old.next) × (k ≡ slice_index self.old.first atom) × (self.new ≡ popped self.old atom)) }
+    {
+        let list = atom.0 as usize;
+        let rule = self.first[list];
+        if rule >= self.next.len() {
+            return None;
+        }
+        self.first[list] = self.next[rule];
+        Some(rule)
+    }
+
+    /// The rule looks at its positive atoms, up to one that isn't marked. Gives how many are left.
+    fn look(&mut self, rule: usize, atoms: &[AtomId]) -> usize
+        requires rule { rule < length self.old.left }
+        requires atoms { slice_index self.old.left rule ≤ length atoms.now }
+        ensures left { self.new ≡ looked self.old rule result }
+        ensures stuck { IsStuck atoms.now (flag_at self.old.derived) (slice_index self.old.left rule) result }
+    {
+        let rest = skip_marked(atoms, self.left[rule], self.derived.as_slice());
+        self.left[rule] = rest;
+        rest
+    }
+
+    /// Marks a head.
+    fn mark(&mut self, atom: AtomId)
+        requires atom { atom < length self.old.derived }
+        requires room { self.old.queued < length self.old.queue }
+        ensures { self.new ≡ marked self.old atom }
+    {
+        self.derived[atom.0 as usize] = true;
+        self.queue[self.queued] = atom;
+        self.queued += 1;
+    }
+
+    fn is_derived(&self, atom: AtomId) -> bool
+        ensures { result ≡ flag_at self.now.derived atom }
+    {
+        is_marked(self.derived.as_slice(), atom)
+    }
+}
