@@ -3,3 +3,5 @@ mod Inputs
 mod LeastModel
 mod Lists
 mod Passing
+mod Sound
+mod States

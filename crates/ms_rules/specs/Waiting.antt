@@ -1,5 +1,5 @@
 -- What holds of the states of a propagation.
-use Rattle.std.specs.Prelude.{ℕ, ◌≡◌, ◌≢◌, ◌+◌, ◌-◌, ◌<◌, ◌≤◌, ◌⊎◌, Bool, false, IsTrue, List, [], ◌∷◌, Some, length, map, slice_index, ⊤}
+use Rattle.std.specs.Prelude.{ℕ, ◌≡◌, ◌≢◌, ◌+◌, ◌-◌, ◌<◌, ◌≤◌, ◌⊎◌, Bool, false, IsTrue, List, [], ◌∷◌, Some, length, map, slice_index, sum, ⊤}
 use Rattle.std.specs.List.{slice_index_or}
 use Rattle.ms_join.specs.declared.ground_rule.GroundRule.{GroundRule}
 use Rattle.ms_join.specs.declared.ground_rule.Rules.{Rules}
@@ -99,3 +99,17 @@ pub record AreWaiting (rules : List GroundRule) (by : ℕ → Bool) (seen hand :
   pub lists : (a : ℕ) → a < length s.first → IsListed rules s.left s.next (slice_index s.first a) seen hand a
   pub later : (a : ℕ) → a < length s.first → IsTrue (flag_at s.derived a) → (length s.next ≤ slice_index s.first a) ⊎ IsQueued s.queue s.taken s.queued a
   pub settled : (k : ℕ) (rule : GroundRule) → k < seen → k ≢ hand → rule ≡ slice_index_or rules k rule → slice_index s.left k ≡ 0 → IsSettled by (flag_at s.derived) rule
+
+-- What was marked stays marked.
+abbrev pub KeepsMarks : List Bool → List Bool → Type 0
+KeepsMarks old new = (a : ℕ) → IsTrue (flag_at old a) → IsTrue (flag_at new a)
+
+-- The queue grows at its end.
+pub record KeepsQueue (old new : State) : Type 0 where
+  pub taken : new.taken ≡ old.taken
+  pub grows : old.queued ≤ new.queued
+  pub kept : (i : ℕ) → i < old.queued → slice_index new.queue i ≡ slice_index old.queue i
+
+-- Where the last atom that the rule didn't look at is marked, it looks at it.
+abbrev pub LooksFurther : List ℕ → ℕ → State → State → Type 0
+LooksFurther atoms k old new = 0 < slice_index old.left k → IsTrue (flag_at old.derived (slice_index atoms (slice_index old.left k - 1))) → sum new.left < sum old.left

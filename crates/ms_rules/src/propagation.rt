@@ -7,7 +7,7 @@ ghost use Rattle.ms_join.specs.AnswerSets.{AreRulesOver, IsReductModel, Keeps};
 ghost use Rattle.ms_rules.specs.Flags.{flag_at};
 ghost use Rattle.ms_rules.specs.LeastModel.{IsLeastModel, MayAsk};
 ghost use Rattle.ms_rules.specs.State.{advanced, looked, marked, popped, pushed};
-ghost use Rattle.ms_rules.specs.Waiting.{AreWaiting, AsksNothing, IsSized, IsSound, IsStuck, Requires, body_at};
+ghost use Rattle.ms_rules.specs.Waiting.{AreWaiting, AsksNothing, IsSized, IsSound, IsStuck, KeepsMarks, KeepsQueue, LooksFurther, Requires, body_at};
 
 use crate::flags::{is_marked, side_holds};
 use crate::least_model::{mark_inputs, may_ask};
@@ -140,5 +140,57 @@ impl Propagation {
         ensures { result ≡ flag_at self.now.derived atom }
     {
         is_marked(self.derived.as_slice(), atom)
+    }
+
+    /// A rule that looked at all its atoms marks the head that it asks for, or gives `false` where that is outside the set.
+    fn settle(&mut self, join: &Rules, in_set: &[bool], number: usize) -> bool
+        requires sound { IsSound join.now in_set.now self.old }
+        requires rule { number < length join.now.rules }
+        requires looked { slice_index self.old.left number ≡ 0 }
+        ensures sound { MatchBool result
+            (IsSound join.now in_set.now self.new)
+            (¬ (IsReductModel join.now (flag_at in_set.now) (flag_at in_set.now))) }
+        ensures waiting { IsTrue result → (seen : ℕ) → number < seen
+            → AreWaiting join.now.rules (flag_at in_set.now) seen number self.old
+            → AreWaiting join.now.rules (flag_at in_set.now) seen seen self.new }
+        ensures marks { KeepsMarks self.old.derived self.new.derived }
+        ensures left { self.new.left ≡ self.old.left }
+        ensures queue { KeepsQueue self.old self.new }
+    {
+        let Some(head) = required_head(&join.rules.as_slice()[number], in_set) else {
+            return true;
+        };
+        if self.is_derived(head) {
+            return true;
+        }
+        if !is_marked(in_set, head) {
+            return false;
+        }
+        self.mark(head);
+        true
+    }
+
+    /// Looks at the positive atoms of a rule that is on no list. It waits for one that isn't marked, or marks its head.
+    /// Gives `false` where it asks for a head outside the set.
+    fn visit(&mut self, join: &Rules, in_set: &[bool], number: usize) -> bool
+        requires sound { IsSound join.now in_set.now self.old }
+        requires rule { number < length join.now.rules }
+        ensures sound { MatchBool result
+            (IsSound join.now in_set.now self.new)
+            (¬ (IsReductModel join.now (flag_at in_set.now) (flag_at in_set.now))) }
+        ensures waiting { IsTrue result → (seen : ℕ) → number < seen
+            → AreWaiting join.now.rules (flag_at in_set.now) seen number self.old
+            → AreWaiting join.now.rules (flag_at in_set.now) seen seen self.new }
+        ensures marks { KeepsMarks self.old.derived self.new.derived }
+        ensures fewer { LooksFurther (body_at join.now.rules number) number self.old self.new }
+        ensures queue { KeepsQueue self.old self.new }
+    {
+        let atoms = join.rules.as_slice()[number].pos.as_slice();
+        let left = self.look(number, atoms);
+        if left == 0 {
+            return self.settle(join, in_set, number);
+        }
+        self.push(atoms[left - 1], number);
+        true
     }
 }
