@@ -5,3 +5,4 @@ mod Lists
 mod Passing
 mod Sound
 mod States
+mod Visits

@@ -3,7 +3,7 @@ use Rattle.std.specs.Prelude.{ℕ, ◌≡◌, ◌≢◌, ◌+◌, ◌-◌, ◌<�
 use Rattle.std.specs.List.{slice_index_or}
 use Rattle.ms_join.specs.declared.ground_rule.GroundRule.{GroundRule}
 use Rattle.ms_join.specs.declared.ground_rule.Rules.{Rules}
-use Rattle.ms_join.specs.AnswerSets.{side_holds, AreRulesOver, Keeps}
+use Rattle.ms_join.specs.AnswerSets.{side_holds, AreRulesOver, IsReductModel, Keeps}
 use Rattle.ms_rules.specs.Flags.{flag_at}
 use Rattle.ms_rules.specs.LeastModel.{IsMarking, MayAsk, unmarked_count}
 use Rattle.ms_rules.specs.State.{State}
@@ -100,16 +100,27 @@ pub record AreWaiting (rules : List GroundRule) (by : ℕ → Bool) (seen hand :
   pub later : (a : ℕ) → a < length s.first → IsTrue (flag_at s.derived a) → (length s.next ≤ slice_index s.first a) ⊎ IsQueued s.queue s.taken s.queued a
   pub settled : (k : ℕ) (rule : GroundRule) → k < seen → k ≢ hand → rule ≡ slice_index_or rules k rule → slice_index s.left k ≡ 0 → IsSettled by (flag_at s.derived) rule
 
--- What was marked stays marked.
-abbrev pub KeepsMarks : List Bool → List Bool → Type 0
-KeepsMarks old new = (a : ℕ) → IsTrue (flag_at old a) → IsTrue (flag_at new a)
-
--- The queue grows at its end.
-pub record KeepsQueue (old new : State) : Type 0 where
+-- It stays sound and as large, what was marked stays marked, and the queue grows at its end.
+pub record Continues (join : Rules) (in_set : List Bool) (old new : State) : Type 0 where
+  pub sound : IsSound join in_set new
+  pub size : length new.left ≡ length old.left
+  pub marks : (a : ℕ) → IsTrue (flag_at old.derived a) → IsTrue (flag_at new.derived a)
   pub taken : new.taken ≡ old.taken
-  pub grows : old.queued ≤ new.queued
-  pub kept : (i : ℕ) → i < old.queued → slice_index new.queue i ≡ slice_index old.queue i
+  pub queued : old.queued ≤ new.queued
+  pub queue : (i : ℕ) → i < old.queued → slice_index new.queue i ≡ slice_index old.queue i
 
 -- Where the last atom that the rule didn't look at is marked, it looks at it.
 abbrev pub LooksFurther : List ℕ → ℕ → State → State → Type 0
 LooksFurther atoms k old new = 0 < slice_index old.left k → IsTrue (flag_at old.derived (slice_index atoms (slice_index old.left k - 1))) → sum new.left < sum old.left
+
+-- Each rule waits or is settled.
+abbrev pub AllWait : Rules → List Bool → State → Type 0
+AllWait join in_set s = AreWaiting join.rules (flag_at in_set) (length join.rules) (length join.rules) s
+
+-- no rule waits for the atom
+abbrev pub IsWaitedForByNone : State → ℕ → Type 0
+IsWaitedForByNone s a = length s.next ≤ slice_index s.first a
+
+-- the set is no model of the reduct by itself
+abbrev pub IsNoModel : Rules → List Bool → Type 0
+IsNoModel join in_set = ¬ (IsReductModel join (flag_at in_set) (flag_at in_set))

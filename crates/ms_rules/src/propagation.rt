@@ -7,7 +7,7 @@ ghost use Rattle.ms_join.specs.AnswerSets.{AreRulesOver, IsReductModel, Keeps};
 ghost use Rattle.ms_rules.specs.Flags.{flag_at};
 ghost use Rattle.ms_rules.specs.LeastModel.{IsLeastModel, MayAsk};
 ghost use Rattle.ms_rules.specs.State.{advanced, looked, marked, popped, pushed};
-ghost use Rattle.ms_rules.specs.Waiting.{AreWaiting, AsksNothing, IsSized, IsSound, IsStuck, KeepsMarks, KeepsQueue, LooksFurther, Requires, body_at};
+ghost use Rattle.ms_rules.specs.Waiting.{AllWait, AreWaiting, AsksNothing, Continues, IsNoModel, IsSized, IsSound, IsStuck, IsWaitedForByNone, LooksFurther, Requires, body_at};
 
 use crate::flags::{is_marked, side_holds};
 use crate::least_model::{mark_inputs, may_ask};
@@ -147,15 +147,12 @@ impl Propagation {
         requires sound { IsSound join.now in_set.now self.old }
         requires rule { number < length join.now.rules }
         requires looked { slice_index self.old.left number ≡ 0 }
-        ensures sound { MatchBool result
-            (IsSound join.now in_set.now self.new)
-            (¬ (IsReductModel join.now (flag_at in_set.now) (flag_at in_set.now))) }
+        ensures kept { Continues join.now in_set.now self.old self.new }
+        ensures left { self.new.left ≡ self.old.left }
+        ensures fails { (result ≡ false) → IsNoModel join.now in_set.now }
         ensures waiting { IsTrue result → (seen : ℕ) → number < seen
             → AreWaiting join.now.rules (flag_at in_set.now) seen number self.old
             → AreWaiting join.now.rules (flag_at in_set.now) seen seen self.new }
-        ensures marks { KeepsMarks self.old.derived self.new.derived }
-        ensures left { self.new.left ≡ self.old.left }
-        ensures queue { KeepsQueue self.old self.new }
     {
         let Some(head) = required_head(&join.rules.as_slice()[number], in_set) else {
             return true;
@@ -175,15 +172,12 @@ impl Propagation {
     fn visit(&mut self, join: &Rules, in_set: &[bool], number: usize) -> bool
         requires sound { IsSound join.now in_set.now self.old }
         requires rule { number < length join.now.rules }
-        ensures sound { MatchBool result
-            (IsSound join.now in_set.now self.new)
-            (¬ (IsReductModel join.now (flag_at in_set.now) (flag_at in_set.now))) }
+        ensures kept { Continues join.now in_set.now self.old self.new }
+        ensures fewer { LooksFurther (body_at join.now.rules number) number self.old self.new }
+        ensures fails { (result ≡ false) → IsNoModel join.now in_set.now }
         ensures waiting { IsTrue result → (seen : ℕ) → number < seen
             → AreWaiting join.now.rules (flag_at in_set.now) seen number self.old
             → AreWaiting join.now.rules (flag_at in_set.now) seen seen self.new }
-        ensures marks { KeepsMarks self.old.derived self.new.derived }
-        ensures fewer { LooksFurther (body_at join.now.rules number) number self.old self.new }
-        ensures queue { KeepsQueue self.old self.new }
     {
         let atoms = join.rules.as_slice()[number].pos.as_slice();
         let left = self.look(number, atoms);
@@ -191,6 +185,39 @@ impl Propagation {
             return self.settle(join, in_set, number);
         }
         self.push(atoms[left - 1], number);
+        true
+    }
+
+    /// Visits each rule, up to one that asks for a head outside the set.
+    fn visit_each(&mut self, join: &Rules, in_set: &[bool]) -> bool
+        requires sound { IsSound join.now in_set.now self.old }
+        requires waiting { AreWaiting join.now.rules (flag_at in_set.now) 0 0 self.old }
+        ensures kept { Continues join.now in_set.now self.old self.new }
+        ensures visited { MatchBool result (AllWait join.now in_set.now self.new) (IsNoModel join.now in_set.now) }
+    {
+        for number in 0..join.rules.len() {
+            if !self.visit(join, in_set, number) {
+                return false;
+            }
+        }
+        true
+    }
+
+    /// Visits each rule that waits for the atom, up to one that asks for a head outside the set.
+    fn wake(&mut self, join: &Rules, in_set: &[bool], atom: AtomId) -> bool
+        requires sound { IsSound join.now in_set.now self.old }
+        requires waiting { AllWait join.now in_set.now self.old }
+        requires marked { IsTrue (flag_at self.old.derived atom) }
+        ensures kept { Continues join.now in_set.now self.old self.new }
+        ensures woken { MatchBool result
+            (AllWait join.now in_set.now self.new × IsWaitedForByNone self.new atom)
+            (IsNoModel join.now in_set.now) }
+    {
+        while let Some(number) = self.pop(atom) {
+            if !self.visit(join, in_set, number) {
+                return false;
+            }
+        }
         true
     }
 }
