@@ -2,7 +2,7 @@
 //
 // Each rule waits for one of its positive atoms that isn't marked. When an atom is marked, the rules that wait for it
 // go on to another, and each looks at each of its atoms once. A rule that looked at all asks for its head.
-ghost use Rattle.std.specs.Prelude.{ℕ, ◌≡◌, ◌+◌, ◌-◌, ◌<◌, ◌≤◌, ◌⊎◌, [], true, false, length, sum, slice_index, IfOk, MatchOption, MatchBool, IsTrue};
+ghost use Rattle.std.specs.Prelude.{ℕ, ◌≡◌, ◌+◌, ◌-◌, ◌<◌, ◌≤◌, All, ◌⊎◌, [], true, false, length, sum, slice_index, IfOk, MatchOption, MatchBool, IsTrue};
 ghost use Rattle.ms_join.specs.AnswerSets.{AreRulesOver, IsReductModel, Keeps};
 ghost use Rattle.ms_rules.specs.Flags.{flag_at};
 ghost use Rattle.ms_rules.specs.LeastModel.{IsLeastModel, MayAsk};
@@ -42,6 +42,16 @@ fn skip_marked(atoms: &[AtomId], left: usize, derived: &[bool]) -> usize
         rest -= 1;
     }
     rest
+}
+
+/// Writes how many positive atoms each rule has, and leaves what stands behind.
+fn write_lengths(rules: &[GroundRule], left: &mut [usize])
+    requires { length rules.now ≤ length left.old }
+    ensures { (k : ℕ) → k < length rules.now → slice_index left.new k ≡ length (body_at rules.now k) }
+{
+    for (number, rule) in rules.iter().enumerate() {
+        left[number] = rule.pos.len();
+    }
 }
 
 /// The state of a propagation. Contracts see it as the record of its lists.
@@ -219,5 +229,66 @@ impl Propagation {
             }
         }
         true
+    }
+
+    /// Takes one marked atom after the other from the queue, and visits the rules that wait for it.
+    fn wake_all(&mut self, join: &Rules, in_set: &[bool]) -> bool
+        requires sound { IsSound join.now in_set.now self.old }
+        requires waiting { AllWait join.now in_set.now self.old }
+        ensures sound { IsSound join.now in_set.now self.new }
+        ensures size { length self.new.left ≡ length self.old.left }
+        ensures closed { MatchBool result
+            (All (λ rule. Keeps (flag_at in_set.now) (flag_at self.new.derived) rule.kind rule) join.now.rules)
+            (IsNoModel join.now in_set.now) }
+    {
+        while self.taken < self.queued {
+            let atom = self.queue[self.taken];
+            if !self.wake(join, in_set, atom) {
+                return false;
+            }
+            self.taken += 1;
+        }
+        true
+    }
+
+    /// Marks the inputs that are facts. No rule waits.
+    fn start(&mut self, join: &Rules, in_set: &[bool])
+        requires over_base { AreRulesOver (length in_set.now) join.now }
+        requires sized { IsSized (length in_set.now) (length self.old.left) self.old }
+        requires rules { length join.now.rules ≤ length self.old.left }
+        ensures sound { IsSound join.now in_set.now self.new }
+        ensures size { length self.new.left ≡ length self.old.left }
+        ensures waiting { AreWaiting join.now.rules (flag_at in_set.now) 0 0 self.new }
+    {
+        mark_inputs(join.inputs.as_slice(), in_set, self.derived.as_mut_slice());
+        write_lengths(join.rules.as_slice(), self.left.as_mut_slice());
+        let end = self.next.len();
+        self.first.as_mut_slice().fill(end);
+        self.queued = 0;
+        self.taken = 0;
+    }
+
+    /// Marks the least model of the reduct, or gives `false` where the set is no model of it, and so can't be the least.
+    pub(crate) fn mark_least_model(&mut self, join: &Rules, in_set: &[bool]) -> bool
+        requires over_base { AreRulesOver (length in_set.now) join.now }
+        requires sized { IsSized (length in_set.now) (length self.old.left) self.old }
+        requires rules { length join.now.rules ≤ length self.old.left }
+        ensures sized { IsSized (length in_set.now) (length self.old.left) self.new }
+        ensures least { MatchBool result
+            (IsLeastModel join.now (flag_at in_set.now) (flag_at self.new.derived))
+            (IsNoModel join.now in_set.now) }
+    {
+        self.start(join, in_set);
+        if !self.visit_each(join, in_set) {
+            return false;
+        }
+        self.wake_all(join, in_set)
+    }
+
+    /// For each atom whether it is marked.
+    pub(crate) fn derived(&self) -> &[bool]
+        ensures { result.now ≡ self.now.derived }
+    {
+        self.derived.as_slice()
     }
 }
