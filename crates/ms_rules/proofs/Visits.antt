@@ -1,21 +1,22 @@
 -- A visit to a rule: it waits for an atom that isn't marked, or marks its head.
-use Rattle.std.proofs.Common.{◌≡◌, ◌≢◌, ◌+◌, ◌-◌, ◌<◌, ◌≤◌, ℕ, Bool, true, false, IsTrue, List, Option, Some, length, get_or, set, refl, sym, subst, ap, ◌∙◌, length-set, arith}
+use Rattle.std.proofs.Common.{◌≡◌, ◌≢◌, ◌+◌, ◌-◌, ◌<◌, ◌≤◌, ℕ, Bool, true, false, IsTrue, List, Option, Some, length, get_or, set, refl, sym, subst, ap, ◌∙◌, ⊎_elim, not, length-set, arith}
 use Rattle.std.specs.Option.{IfSome}
 use Rattle.std.specs.Prelude.{sum}
-use Rattle.std.proofs.lemmas.Bool.{both_ways}
-use Rattle.std.proofs.lemmas.List.{get_or-set_other, get_or-set_same, get_or_default}
-use Rattle.std.proofs.lemmas.List.Sums.{sum_by-set}
+use Rattle.std.proofs.lemmas.Bool.{both_ways, cases_lt}
+use Rattle.std.proofs.lemmas.List.{get_or-set_other, get_or-set_same, get_or_default, get_or_past}
+use Rattle.std.proofs.lemmas.List.Sums.{count_by-le-length, sum_by-set}
 use Rattle.ms_join.specs.declared.ground_rule.GroundRule.{GroundRule}
 use Rattle.ms_join.specs.declared.ground_rule.Rules.{Rules}
 use Rattle.ms_join.specs.declared.ground_rule.GroundKind.{GroundKind}
 use Rattle.ms_join.specs.declared.ground_rule.GroundKind.TheVariants.{Normal, Choice, Constraint}
-use Rattle.ms_join.specs.AnswerSets.{Keeps, has_all, side_holds}
+use Rattle.ms_join.specs.AnswerSets.{AreRulesOver, Keeps, has_all, side_holds}
 use Rattle.ms_rules.specs.Flags.{flag_at}
-use Rattle.ms_rules.specs.State.{State, looked, marked, pushed}
-use Rattle.ms_rules.specs.Waiting.{AreWaiting, AsksNothing, Continues, IsSettled, IsSound, IsStuck, IsWaiting, Requires, body_at}
+use Rattle.ms_rules.specs.LeastModel.{IsMarking}
+use Rattle.ms_rules.specs.State.{State, advanced, looked, marked, popped, pushed}
+use Rattle.ms_rules.specs.Waiting.{AllWait, AreWaiting, AsksNothing, Continues, IsSettled, IsSized, IsSound, IsStuck, IsWaitedForByNone, IsWaiting, Requires, body_at}
 use Rattle.ms_rules.proofs.LeastModel.{marks_stay}
-use Rattle.ms_rules.proofs.Sound.{IsSound-looked, IsSound-marked, IsSound-pushed, asks_for_head, head_in_range, room_for_head}
-use Rattle.ms_rules.proofs.States.{AreWaiting-looked, AreWaiting-marked, AreWaiting-pushed, AreWaiting-settled, body_of_rule}
+use Rattle.ms_rules.proofs.Sound.{IsSound-advanced, IsSound-looked, IsSound-marked, IsSound-popped, IsSound-pushed, asks_for_head, head_in_range, room_for_head}
+use Rattle.ms_rules.proofs.States.{AreWaiting-advanced, AreWaiting-looked, AreWaiting-marked, AreWaiting-popped, AreWaiting-pushed, AreWaiting-settled, body_of_rule}
 
 -- a set that has its head keeps what the rule asks for
 keeps_with_head : (by of : ℕ → Bool) (kind : GroundKind) (rule : GroundRule) (h : ℕ) → rule.head ≡ Some h → IsTrue (of h) → Keeps by of kind rule
@@ -187,3 +188,66 @@ waiting_pushes join in_set k r b rule atoms s mid new looks pushes sound seen be
     let atom_in = atom_in_range join in_set k r b rule atoms s mid looks sound some pushes.at in
     let rule_in = rule_in_range join in_set k r rule atoms s mid looks sound in
     subst (λ n. AreWaiting rules (flag_at in_set) seen seen n) (sym pushes.is) (AreWaiting-pushed rules (flag_at in_set) seen k b mid rule_in atom_in waits unmarked (waiting_looks join in_set k r seen rule atoms s mid looks w))
+
+-- The first rule that waits for a marked atom is taken in hand.
+pub record Wakes (join : Rules) (in_set : List Bool) (k : ℕ) (s mid : State) : Type 0 where
+  pub short : k < length join.rules
+  pub kept : Continues join in_set s mid
+  pub others : AreWaiting join.rules (flag_at in_set) (length join.rules) k mid
+  pub left : mid.left ≡ s.left
+  pub some : 0 < get_or mid.left k 0
+  pub is_marked : IsTrue (flag_at mid.derived (get_or (body_at join.rules k) (get_or mid.left k 0 - 1) 0))
+
+-- what the pop of a rule gives
+pub record Pops (k a : ℕ) (s mid : State) : Type 0 where
+  pub within : k < length s.next
+  pub first : k ≡ get_or s.first a 0
+  pub is : mid ≡ popped s a
+
+marked_in_range : (flags : List Bool) (a : ℕ) → IsTrue (flag_at flags a) → a < length flags
+marked_in_range flags a is_marked =
+    ⊎_elim (λ (short : a < length flags). short) (λ (past : length flags ≤ a). absurd (both_ways (flag_at flags a) (get_or_past flags a false past) is_marked)) (cases_lt a (length flags))
+
+pub wakes : (join : Rules) (in_set : List Bool) (k a : ℕ) (s mid : State) → IsSound join in_set s → AllWait join in_set s → IsTrue (flag_at s.derived a) → Pops k a s mid → Wakes join in_set k s mid
+wakes join in_set k a s mid sound w is_marked pops =
+    let in_range : a < length s.first = omega (arith, marked_in_range s.derived a is_marked, sound.sized.derived, sound.sized.first) in
+    let taken = AreWaiting-popped join.rules (flag_at in_set) (length join.rules) k a s pops.within in_range pops.first w in
+    let here : Wakes join in_set k s (popped s a) = record {
+      short = taken.waits.before;
+      kept = record { sound = IsSound-popped join in_set a s sound; size = refl; marks = λ b has. has; taken = refl; queued = omega arith; queue = λ i short. refl };
+      others = taken.others;
+      left = refl;
+      some = taken.waits.some;
+      is_marked = subst (λ n. IsTrue (flag_at s.derived n)) (sym taken.waits.last) is_marked;
+    } in
+    subst (Wakes join in_set k s) (sym pops.is) here
+
+-- The first atom of the queue is taken from it.
+pub record Advances (join : Rules) (in_set : List Bool) (s new : State) : Type 0 where
+  pub sound : IsSound join in_set new
+  pub size : length new.left ≡ length s.left
+  pub waiting : AllWait join in_set new
+  pub taken : new.taken ≡ s.taken + 1
+
+pub advances : (join : Rules) (in_set : List Bool) (a : ℕ) (s mid : State) → IsSound join in_set s → s.taken < s.queued → a ≡ get_or s.queue s.taken a → Continues join in_set s mid → AllWait join in_set mid → IsWaitedForByNone mid a → Advances join in_set s (advanced mid)
+advances join in_set a s mid sound more first kept w none =
+    let within : s.taken < length s.queue = omega (arith, more, sound.room, sound.sized.derived, sound.sized.queue) in
+    let first_now : a ≡ get_or mid.queue mid.taken 0 = first ∙ get_or_default s.queue s.taken a 0 within ∙ sym (kept.queue s.taken more) ∙ ap (λ n. get_or mid.queue n 0) (sym kept.taken) in
+    record {
+      sound = IsSound-advanced join in_set mid kept.sound;
+      size = kept.size;
+      waiting = AreWaiting-advanced join.rules (flag_at in_set) (length join.rules) a mid (omega (arith, more, kept.taken, kept.queued)) first_now none w;
+      taken = omega (arith, kept.taken);
+    }
+
+-- The inputs that are facts are marked, and no rule looked at an atom.
+pub IsSound-start : (join : Rules) (in_set : List Bool) (new : State) → AreRulesOver (length in_set) join → IsSized (length in_set) (length new.left) new → length join.rules ≤ length new.left → IsMarking join (flag_at in_set) (flag_at new.derived) → new.queued ≡ 0 → ((k : ℕ) → k < length join.rules → get_or new.left k 0 ≡ length (body_at join.rules k)) → IsSound join in_set new
+IsSound-start join in_set new over sized rules marking none lengths = record {
+  over = over;
+  sized = sized;
+  rules = rules;
+  marking = marking;
+  room = omega (arith, none, count_by-le-length not new.derived);
+  queue = λ i short. absurd (omega (arith, short, none));
+  looked = λ k short. record { within = omega (arith, lengths k short); passed = λ i from within. absurd (omega (arith, from, within, lengths k short)) };
+}

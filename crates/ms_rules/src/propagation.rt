@@ -5,8 +5,8 @@
 ghost use Rattle.std.specs.Prelude.{ℕ, ◌≡◌, ◌+◌, ◌-◌, ◌<◌, ◌≤◌, All, ◌⊎◌, [], true, false, length, sum, slice_index, IfOk, MatchOption, MatchBool, IsTrue};
 ghost use Rattle.ms_join.specs.AnswerSets.{AreRulesOver, IsReductModel, Keeps};
 ghost use Rattle.ms_rules.specs.Flags.{flag_at};
-ghost use Rattle.ms_rules.specs.LeastModel.{IsLeastModel, MayAsk};
-ghost use Rattle.ms_rules.specs.State.{advanced, looked, marked, popped, pushed};
+ghost use Rattle.ms_rules.specs.LeastModel.{AreMarked, IsLeastModel};
+ghost use Rattle.ms_rules.specs.State.{looked, marked, popped, pushed};
 ghost use Rattle.ms_rules.specs.Waiting.{AllWait, AreWaiting, AsksNothing, Continues, IsNoModel, IsSized, IsSound, IsStuck, IsWaitedForByNone, LooksFurther, Requires, body_at};
 
 use crate::flags::{is_marked, side_holds};
@@ -251,14 +251,17 @@ impl Propagation {
         true
     }
 
-    /// Marks the inputs that are facts. No rule waits.
-    fn start(&mut self, join: &Rules, in_set: &[bool])
+    /// Marks the inputs that are facts, and no other atoms. No rule waits, and none looked at an atom.
+    fn reset(&mut self, join: &Rules, in_set: &[bool])
         requires over_base { AreRulesOver (length in_set.now) join.now }
         requires sized { IsSized (length in_set.now) (length self.old.left) self.old }
         requires rules { length join.now.rules ≤ length self.old.left }
-        ensures sound { IsSound join.now in_set.now self.new }
-        ensures size { length self.new.left ≡ length self.old.left }
-        ensures waiting { AreWaiting join.now.rules (flag_at in_set.now) 0 0 self.new }
+        ensures sized { IsSized (length in_set.now) (length self.old.left) self.new }
+        ensures facts { AreMarked join.now.inputs (flag_at in_set.now) (flag_at self.new.derived) }
+        ensures left { (k : ℕ) → k < length join.now.rules → slice_index self.new.left k ≡ length (body_at join.now.rules k) }
+        ensures queued { self.new.queued ≡ 0 }
+        ensures taken { self.new.taken ≡ 0 }
+        ensures none_waits { (a : ℕ) → a < length self.new.first → IsWaitedForByNone self.new a }
     {
         mark_inputs(join.inputs.as_slice(), in_set, self.derived.as_mut_slice());
         write_lengths(join.rules.as_slice(), self.left.as_mut_slice());
@@ -278,7 +281,7 @@ impl Propagation {
             (IsLeastModel join.now (flag_at in_set.now) (flag_at self.new.derived))
             (IsNoModel join.now in_set.now) }
     {
-        self.start(join, in_set);
+        self.reset(join, in_set);
         if !self.visit_each(join, in_set) {
             return false;
         }
