@@ -5,7 +5,8 @@ use Rattle.ms_text.specs.declared.token.TokenKind.TheVariants.{LeftParen, RightP
 use Rattle.ms_grammar.specs.declared.part.Part.{Part}
 use Rattle.ms_grammar.specs.Words.{Word, sign}
 use Rattle.ms_grammar.specs.Terms as g
-use Rattle.ms_grammar.specs.Terms.{most_choices, most_height, counted, fitting}
+use Rattle.ms_base.specs.Limits.{most_choices, most_height}
+use Rattle.ms_grammar.specs.Terms.{counted, fitting}
 use Rattle.ms_ast.specs.declared.line.Line.{Line}
 use Rattle.ms_ast.specs.declared.line.Line.TheVariants.{Interval, Sum, Product, Unary, Primary}
 use Rattle.ms_ast.specs.Ink.{Ink, ink_words, mark, in_parens}

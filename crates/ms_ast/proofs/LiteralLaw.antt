@@ -13,7 +13,8 @@ use Rattle.ms_grammar.specs.declared.part.Rows.{Rows}
 use Rattle.ms_grammar.specs.declared.part.Counted.{Counted}
 use Rattle.ms_grammar.specs.Words.{name, sign}
 use Rattle.ms_grammar.specs.Terms as g
-use Rattle.ms_grammar.specs.Terms.{most_height, leaf, named, fitting}
+use Rattle.ms_base.specs.Limits.{most_height}
+use Rattle.ms_grammar.specs.Terms.{leaf, named, fitting}
 use Rattle.ms_grammar.specs.Statements as st
 use Rattle.ms_grammar.specs.Statements.{Atom, atom_words, atom_spelled, as_atom, bounded, term_spelled, Literal, literal_words, literal_spelled, Conditions, conditions_words, conditions_spelled, cmp_of, alone, beside, join, row_of, with_value}
 use Rattle.ms_ast.specs.declared.line.Line.TheVariants.{Interval}

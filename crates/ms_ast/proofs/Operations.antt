@@ -9,7 +9,8 @@ use Rattle.ms_grammar.specs.declared.part.Part.{Part}
 use Rattle.ms_grammar.specs.declared.term.TextTerm.{Number, Text, Function, Interval as interval_term, Neg, Abs, Binary}
 use Rattle.ms_grammar.specs.Words.{Word, name, number, quoted, sign}
 use Rattle.ms_grammar.specs.Terms as g
-use Rattle.ms_grammar.specs.Terms.{greatest_numeral, most_choices, counted, leaf, round, joined, fitting}
+use Rattle.ms_base.specs.Limits.{most_choices}
+use Rattle.ms_grammar.specs.Terms.{greatest_numeral, counted, leaf, round, joined, fitting}
 use Rattle.ms_ast.specs.declared.line.Line.TheVariants.{Interval, Sum, Unary, Primary}
 use Rattle.ms_ast.specs.Ink.{Ink, word, ink_text, ink_words, mark}
 use Rattle.ms_ast.specs.Terms.{printed, on_line, at_line, op_kind, op_line, right_line}

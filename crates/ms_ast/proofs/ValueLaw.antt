@@ -13,7 +13,8 @@ use Rattle.ms_grammar.specs.declared.value.Value.TheFolds.{fold-roll-Value}
 use Rattle.ms_grammar.specs.declared.part.ValuePart.{ValuePart}
 use Rattle.ms_grammar.specs.declared.part.ValueRow.{ValueRow}
 use Rattle.ms_grammar.specs.Words.{name, number, quoted, sign}
-use Rattle.ms_grammar.specs.Terms.{most_height, greatest_numeral, both}
+use Rattle.ms_base.specs.Limits.{most_height}
+use Rattle.ms_grammar.specs.Terms.{greatest_numeral, both}
 use Rattle.ms_grammar.specs.Values.{Spelling, Spellings, numeral, negative, string, constant, no_arguments, function, empty_tuple, tuple, tuple_comma, one_value, and_value, value_words, values_words, value_part, values_row, value_leaf, value_named, value_grouped, no_values, with_value}
 use Rattle.ms_ast.specs.Ink.{Ink, word, ink_words, ink_text, mark, in_parens, side_by_side, comma}
 use Rattle.ms_ast.specs.Values.{value_ink, value_ink_of, integer_ink, function_ink, tuple_inside}

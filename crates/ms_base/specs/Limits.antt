@@ -1,5 +1,5 @@
 -- The limits of the program. All are this project's own.
-use Rattle.std.specs.Prelude.{ℕ}
+use Rattle.std.specs.Prelude.{ℕ, ◌^◌}
 
 -- how many things a join may have: its atoms and the bodies of its rules
 abbrev pub most_things : ℕ
@@ -30,7 +30,7 @@ abbrev pub usual_limit : ℕ
 usual_limit = 1000000
 
 abbrev pub greatest_limit : ℕ
-greatest_limit = 1099511627776
+greatest_limit = 2 ^ 40
 
 -- how many learned nogoods are kept from one solve to the next
 abbrev pub most_kept : ℕ
@@ -38,4 +38,4 @@ most_kept = 200000
 
 -- how many bytes an input may have
 abbrev pub most_bytes : ℕ
-most_bytes = 1073741824
+most_bytes = 2 ^ 30

@@ -1,10 +1,10 @@
 //! The limits of the program. All are this project's own.
 
 /// How many things a join may have: its atoms and the bodies of its rules.
-pub const MOST_THINGS: u64 = 4_000_000;
+pub const MOST_THINGS: usize = 4_000_000;
 
 /// How many copies of rules and of elements a grounding may have together.
-pub const MOST_COPIES: u64 = 1_000_000;
+pub const MOST_COPIES: usize = 1_000_000;
 
 /// How many symbols an atom may have.
 pub const MOST_SYMBOLS: u64 = 2_000;
@@ -25,10 +25,10 @@ pub const MOST_ANSWERS: u64 = 1_000_000;
 pub const USUAL_LIMIT: u64 = 1_000_000;
 
 /// How many conflicts a solve may be allowed.
-pub const GREATEST_LIMIT: u64 = 1_099_511_627_776;
+pub const GREATEST_LIMIT: u64 = 1 << 40;
 
 /// How many learned nogoods are kept from one solve to the next.
-pub const MOST_KEPT: u64 = 200_000;
+pub const MOST_KEPT: usize = 200_000;
 
 /// How many bytes an input may have.
-pub const MOST_BYTES: usize = 1_073_741_824;
+pub const MOST_BYTES: usize = 1 << 30;

@@ -1,4 +1,5 @@
-ghost use Rattle.std.specs.Prelude.{◌≡◌, ◌∷◌, [], ◌++◌, length, take, slice_get, option_copied, option_to_list, IsSome, IsTrue, ◌<◌, ◌-◌, ◌↔◌, OnOk, OnErr, IfErr, IfOk};
+ghost use Rattle.std.specs.Prelude.{◌≡◌, ◌∷◌, [], ◌++◌, length, take, slice_get, slice_index_or, slice_set, option_copied, option_to_list, IsSome, IsTrue, ◌<◌, ◌-◌, ◌↔◌, OnOk, OnErr, IfErr, IfOk};
+ghost use Rattle.std.specs.List.{swap_remove};
 ghost use Rattle.std.specs.Cmp.Lexicographic.{pointwise, slice_cmp, slice_partial_cmp, lists_equiv, lists_agrees, lists_total, lists_ties, lists_po, lists_per};
 ghost use Rattle.std.specs.Hash as fed;
 ghost use Rattle.std.specs.Hash.{items_Alike};
@@ -85,13 +86,6 @@ impl<T> Seq<T> {
         self.items.push(item)
     }
 
-    /// The first element, or `None` where there is none.
-    pub fn first(&self) -> Option<&T>
-        ensures { option_copied result ≡ slice_get self.now 0 }
-    {
-        self.items.first()
-    }
-
     /// The last element, or `None` where there is none.
     pub fn last(&self) -> Option<&T>
         ensures { option_copied result ≡ slice_get self.now (length self.now - 1) }
@@ -109,9 +103,18 @@ impl<T> Seq<T> {
     /// Takes the last element off, or leaves the empty list as it is.
     pub fn pop(&mut self) -> Option<T>
         ensures taken { self.old ≡ self.new ++ option_to_list result }
-        ensures empty { IsSome result ↔ (0 < length self.old) }
+        ensures found { IsSome result ↔ (0 < length self.old) }
     {
         self.items.pop()
+    }
+
+    /// Takes an element out, and the last one takes its place.
+    pub fn swap_remove(&mut self, place: usize) -> T
+        requires { place < length self.old }
+        ensures taken { result ≡ slice_index_or self.old place result }
+        ensures left { self.new ≡ swap_remove self.old place result }
+    {
+        self.items.swap_remove(place)
     }
 
     /// Moves the elements of the other list to the end, or leaves both lists where there is no memory for it.
@@ -126,6 +129,14 @@ impl<T> Seq<T> {
 }
 
 impl<T: Drop> Seq<T> {
+    /// Puts an element in the place of another.
+    pub fn set(&mut self, place: usize, item: T)
+        requires { place < length self.old }
+        ensures { self.new ≡ slice_set self.old place item }
+    {
+        self.items[place] = item;
+    }
+
     /// Keeps the first so many elements, or all where there are fewer.
     pub fn truncate(&mut self, len: usize)
         ensures { self.new ≡ take len self.old }

@@ -1,5 +1,6 @@
 -- Which words after a command's word say which command.
 use Rattle.std.specs.Prelude.{ℕ, ◌≡◌, ◌≢◌, ◌≤◌, ◌⊎◌, ⊤, Bool, true, false, List, [], ◌∷◌, ◌++◌, Some, codes}
+use Rattle.ms_base.specs.Limits.{most_answers, usual_limit, greatest_limit}
 use Rattle.ms_text.specs.declared.token.TokenKind.TheVariants.{Not, Comma, LeftParen, RightParen, Equal}
 use Rattle.ms_grammar.specs.declared.value.Value.{Value}
 use Rattle.ms_grammar.specs.declared.part.ValuePart.{ValuePart}
@@ -66,21 +67,11 @@ truth_name True = codes "true"
 truth_name False = codes "false"
 truth_name Free = codes "free"
 
--- how many answers may be asked for, and how many are by `all`
-abbrev pub most_answers : ℕ
-most_answers = 1000000
-
+-- a number, or the most by `all`
 abbrev pub IsCount : Word → ℕ → Type 0
 IsCount w count =
     ((w ≡ number count) × (1 ≤ count) × (count ≤ most_answers))
     ⊎ ((w ≡ name (codes "all")) × (count ≡ most_answers))
-
--- how many conflicts are allowed where nothing is said, and how many may be
-abbrev pub usual_limit : ℕ
-usual_limit = 1000000
-
-abbrev pub greatest_limit : ℕ
-greatest_limit = 1099511627776
 
 -- `limit=L`, or nothing
 abbrev pub IsLimit : List Word → ℕ → Type 0

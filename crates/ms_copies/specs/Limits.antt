@@ -1,19 +1,12 @@
 -- When a grounding is too large. The limits are this project's own.
 use Rattle.std.specs.Prelude.{ℕ, ◌+◌, ◌<◌, ◌≢◌, ◌⊎◌, List, length, All, AllPairs, IsSomeAnd, slice_get}
+pub use Rattle.ms_base.specs.Limits.{most_copies, most_symbols}
 use Rattle.ms_tree.specs.Tree.{Tree}
 use Rattle.ms_tree.specs.Size.{tree_size}
 use Rattle.ms_core.specs.declared.rule.CoreRule.{CoreRule}
 use Rattle.ms_copies.specs.Evaluating.{Chosen}
 use Rattle.ms_copies.specs.Choosing.{IsCopy, IsElementCopy}
 use Rattle.ms_copies.specs.Grounding.{IsKnown}
-
--- how many copies of rules and of elements there may be together
-abbrev pub most_copies : ℕ
-most_copies = 1000000
-
--- how many symbols a known atom may have
-abbrev pub most_symbols : ℕ
-most_symbols = 2000
 
 -- the place of a rule in a list, and a choice for its ranges
 pub record Copy : Type 0 where

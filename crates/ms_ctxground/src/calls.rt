@@ -1,7 +1,7 @@
 // The ground module of calls of parts.
 ghost use Rattle.std.specs.Prelude.{◌≡◌, ◌≤◌, IfOk, length};
 ghost use Rattle.ms_term.specs.Terms.{trees};
-ghost use Rattle.ms_machine.specs.Grounding.{core_of_calls};
+ghost use Rattle.ms_solving.specs.Grounding.{core_of_calls};
 ghost use Rattle.ms_ctxground.specs.Grounds.{Grounds, IsBaseIn};
 
 use crate::fault::GroundFault;

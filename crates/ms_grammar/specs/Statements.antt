@@ -28,7 +28,8 @@ use Rattle.ms_grammar.specs.declared.statement.Statement.{Statement}
 use Rattle.ms_grammar.specs.declared.part.Part.{Part}
 use Rattle.ms_grammar.specs.declared.part.Counted.{Counted}
 use Rattle.ms_grammar.specs.Words.{Word, name, number, sign, words_of, separated}
-use Rattle.ms_grammar.specs.Terms.{Term, Lists, term_words, term_part, primary_words, primary_part, constant, function, greatest_numeral, most_height, most_choices, counted, both}
+use Rattle.ms_base.specs.Limits.{most_height, most_choices}
+use Rattle.ms_grammar.specs.Terms.{Term, Lists, term_words, term_part, primary_words, primary_part, constant, function, greatest_numeral, counted, both}
 use Rattle.ms_grammar.specs.Values.{Spelling, value_words, value_part}
 
 abbrev pub alone : {T : Type 0} → T → Counted T

@@ -3,6 +3,7 @@
 -- a profile of this project.
 use Rattle.std.specs.Prelude.{ℕ, suc, ◌+◌, ◌*◌, ◌^◌, nat_le, pos, neg_ℤ, if◌then◌else◌, min, max, List, [], ◌∷◌, ◌++◌, Option, Some, None}
 use Rattle.std.specs.Option.{option_map, option_and_then}
+use Rattle.ms_base.specs.Limits.{most_choices, most_height}
 use Rattle.ms_tree.specs.declared.op.Op.TheVariants.{Add, Sub, Mul, Div, Rem}
 use Rattle.ms_text.specs.declared.token.TokenKind.TheVariants.{DotDot, Comma, Semicolon, LeftParen, RightParen, Plus, Minus, Star, Slash, Backslash, Bar}
 use Rattle.ms_grammar.specs.declared.term.TextTerm.{TextTerm, Number, Text, Function, Pool, Interval, Neg, Abs, Binary}
@@ -124,16 +125,9 @@ abbrev mutual
 abbrev pub greatest_numeral : ℕ
 greatest_numeral = 9223372036854775807
 
--- How many choices pools have is counted up to one more than this.
-abbrev pub most_choices : ℕ
-most_choices = 10000
-
+-- How many choices pools have is counted up to one more than the most.
 abbrev pub counted : ℕ → ℕ
 counted n = min n (suc most_choices)
-
--- the greatest height of a term
-abbrev pub most_height : ℕ
-most_height = 200
 
 -- a part of which no term is higher than it may be: an atom is by one higher than its arguments
 abbrev pub fitting : Part → Option Part

@@ -7,7 +7,8 @@ use Rattle.ms_grammar.specs.declared.value.Value.{Value, Number, Text, Function}
 use Rattle.ms_grammar.specs.declared.part.ValuePart.{ValuePart}
 use Rattle.ms_grammar.specs.declared.part.ValueRow.{ValueRow}
 use Rattle.ms_grammar.specs.Words.{Word, name, number, quoted, sign}
-use Rattle.ms_grammar.specs.Terms.{most_height, greatest_numeral, both}
+use Rattle.ms_base.specs.Limits.{most_height}
+use Rattle.ms_grammar.specs.Terms.{greatest_numeral, both}
 
 mutual
   -- value = ["-"] number | string | name ["(" [value {"," value}] ")"] | "(" [value {"," value} [","]] ")"

@@ -1,6 +1,2 @@
-mod Lists
-mod FreeSets
-mod Cutting
-mod Joining
 mod Running
 mod Listed

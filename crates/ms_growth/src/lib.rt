@@ -1,34 +1,9 @@
 // Laws of a program that grows: what is possible for a join, whatever its inputs are set to, was possible before for
 // the atoms that were there. So what was concluded once needn't be concluded again. Each law is the contract of a
-// function that does nothing: it speaks of every join, or of every run from a state that commands lead to.
+// function that does nothing: it speaks of every run from a state that commands lead to.
 #![tactic(auto)]
 
-ghost use Rattle.ms_growth.specs.Laws.{AnswersArePossible, AssignedKeepsThePossible, ConsequencesHold, ConsequencesStay, JoinedKeepsThePast, NamesStay, PossibleByValues, ReleasedKeepsThePast, RuledOutIsNeverListed, ThePastStays};
-
-/// A set is possible exactly where there are values of the inputs under which it is an answer set.
-pub fn possible_by_values()
-    ensures { PossibleByValues }
-{}
-
-/// An answer set under the present values of the inputs is possible.
-pub fn answers_are_possible()
-    ensures { AnswersArePossible }
-{}
-
-/// What is possible for a join with a module was possible before, for the atoms that were there.
-pub fn joined_keeps_the_past()
-    ensures { JoinedKeepsThePast }
-{}
-
-/// What is possible after a release was possible before it.
-pub fn released_keeps_the_past()
-    ensures { ReleasedKeepsThePast }
-{}
-
-/// Assigning changes nothing of what is possible.
-pub fn assigned_keeps_the_possible()
-    ensures { AssignedKeepsThePossible }
-{}
+ghost use Rattle.ms_growth.specs.Laws.{ConsequencesHold, ConsequencesStay, NamesStay, RuledOutIsNeverListed, ThePastStays};
 
 /// What is possible in a later state was possible in each earlier one, for the atoms that were there.
 pub fn the_past_stays()
@@ -51,7 +26,7 @@ pub fn consequences_hold()
     ensures { ConsequencesHold }
 {}
 
-/// No later solve lists an atom that no possible set has.
+/// No later reply lists an atom that no possible set has.
 pub fn ruled_out_is_never_listed()
     ensures { RuledOutIsNeverListed }
 {}

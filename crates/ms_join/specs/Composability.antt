@@ -4,6 +4,7 @@
 -- and which refusal comes first with which atoms, are this project's own.
 use Rattle.std.specs.Prelude.{ℕ, ◌≢◌, ◌+◌, ◌<◌, ◌++◌, List, Result, Ok, Err, All, AllPairs, Contains, length, slice_index_or, pos, ⊤}
 use Rattle.std.specs.declared.cmp.Ordering.TheVariants.{Less}
+pub use Rattle.ms_base.specs.Limits.{most_things}
 use Rattle.ms_tree.specs.Tree.{Tree, number}
 use Rattle.ms_tree.specs.Order.{compare_trees}
 use Rattle.ms_join.specs.declared.ground_rule.GroundRule.{GroundRule}
@@ -13,10 +14,6 @@ use Rattle.ms_join.specs.declared.join_fault.JoinFault.TheVariants.{TooMany, Red
 use Rattle.ms_join.specs.Things.{Thing, IsThing}
 use Rattle.ms_join.specs.Modules.{Join, IsOutput}
 use Rattle.ms_join.specs.Dependencies.{AreTogether, DependsInAggregate}
-
--- how many things a join may have
-abbrev pub most_things : ℕ
-most_things = 4000000
 
 -- A join with so many atoms and these rules has more things than it may have.
 pub record HasTooMany (atoms : ℕ) (rules : List GroundRule) : Type 0 where

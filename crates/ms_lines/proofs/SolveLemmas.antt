@@ -9,7 +9,8 @@ use Rattle.ms_grammar.specs.Words.{Word, name, number, sign, word_of, words_of}
 use Rattle.ms_call.specs.declared.command.Assumption.{Assumption}
 use Rattle.ms_call.specs.declared.command.Command.{Command}
 use Rattle.ms_call.specs.declared.command.Command.TheVariants.{Add, Ground, Assign, Release, Solve}
-use Rattle.ms_call.specs.Commands.{IsSaid, IsSolve, IsCount, IsLimit, IsAssume, AreSome, IsLiteral, most_answers, greatest_limit}
+use Rattle.ms_base.specs.Limits.{most_answers, greatest_limit}
+use Rattle.ms_call.specs.Commands.{IsSaid, IsSolve, IsCount, IsLimit, IsAssume, AreSome, IsLiteral}
 use Rattle.ms_lines.specs.Words.{is_name, number_in, count_in}
 use Rattle.ms_lines.specs.Signs.{Begins, BeginsNot, NameComes, NameComesNot}
 use Rattle.ms_lines.specs.Limits.{HasLimit, HasNoLimit, LimitIs}

@@ -2,7 +2,7 @@
 use Rattle.std.specs.Prelude.{ℕ, ◌≡◌, ◌≤◌, ◌⊎◌, List, ◌∷◌, codes}
 use Rattle.ms_text.specs.declared.token.TokenKind.TheVariants.{Equal}
 use Rattle.ms_grammar.specs.Words.{Word, name, number, sign}
-use Rattle.ms_call.specs.Commands.{usual_limit, greatest_limit}
+use Rattle.ms_base.specs.Limits.{usual_limit, greatest_limit}
 
 -- The words begin with `limit=L`, and the rest follows.
 abbrev pub HasLimit : List Word → ℕ → List Word → Type 0

@@ -14,7 +14,7 @@ use Rattle.ms_base.specs.declared.truth.Truth.TheVariants.{True, False, Free}
 use Rattle.ms_call.specs.declared.command.Assumption.{Assumption}
 use Rattle.ms_call.specs.declared.command.Command.{Command}
 use Rattle.ms_call.specs.declared.command.Command.TheVariants.{Release}
-use Rattle.ms_call.specs.Commands.{most_answers}
+use Rattle.ms_base.specs.Limits.{most_answers}
 
 abbrev pub name_in : Word → Option (List ℕ)
 name_in (name n) = Some n

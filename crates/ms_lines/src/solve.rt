@@ -11,19 +11,11 @@ ghost use Rattle.ms_lines.specs.Limits.{HasLimit, HasNoLimit, LimitIs};
 use crate::literals::read_literals;
 use crate::signs::{after_name, after_sign, tokens_after};
 use crate::words::{is_name, number_in};
+use ms_base::limits::{GREATEST_LIMIT, MOST_ANSWERS, USUAL_LIMIT};
 use ms_base::memory::OutOfMemory;
 use ms_call::command::{Assumptions, Command};
 use ms_text::token::{Token, TokenKind};
 use std::alloc::Global;
-
-/// How many answers may be asked for.
-const MOST_ANSWERS: u64 = 1_000_000;
-
-/// How many conflicts are allowed where nothing is said.
-const USUAL_LIMIT: u64 = 1_000_000;
-
-/// How many conflicts may be allowed.
-const GREATEST_LIMIT: u64 = 1_099_511_627_776;
 
 /// What all of the tokens after `@solve` spell.
 pub(crate) fn read_solve(

@@ -8,7 +8,7 @@ use Rattle.ms_grammar.specs.declared.statement.Form.{Form}
 use Rattle.ms_grammar.specs.declared.statement.Statement.{Statement}
 use Rattle.ms_grammar.specs.declared.part.Counted.{Counted}
 use Rattle.ms_grammar.specs.Words.{sign, word_of, words_of}
-use Rattle.ms_grammar.specs.Terms.{most_choices}
+use Rattle.ms_base.specs.Limits.{most_choices}
 use Rattle.ms_grammar.specs.Statements.{Sentence, rule, program, external, const, show, show_none, include, sentence_words, sentence_spelled, IsStatement, first_line, HasFewCopies}
 use Rattle.ms_parse.specs.Content.{IsSpelled, IsContent, content_words, statement_from}
 use Rattle.ms_parse.proofs.SignLemmas.{sign_from_kind, kind_from_sign}

@@ -10,7 +10,7 @@ use Rattle.ms_grammar.specs.declared.statement.Statement.{Statement}
 use Rattle.ms_grammar.specs.declared.part.Counted.{Counted}
 use Rattle.ms_grammar.specs.declared.part.ValuePart.{ValuePart}
 use Rattle.ms_grammar.specs.Words.{Word, name, number, sign}
-use Rattle.ms_grammar.specs.Terms.{most_choices}
+use Rattle.ms_base.specs.Limits.{most_choices}
 use Rattle.ms_grammar.specs.Values.{Spelling, value_words, value_part}
 use Rattle.ms_grammar.specs.Statements.{Atom, atom_words, atom_spelled, Body, body_words, body_spelled, HeadPart, head_words, Tail, tail_words, tail_spelled, Parameters, parameters_words, parameter_names, rule_spelled, Sentence, rule, program, external, const, show, show_none, include, sentence_spelled, beside}
 

@@ -3,17 +3,15 @@ ghost use Rattle.std.specs.Prelude.{◌≡◌, ◌+◌, ◌*◌, ◌↔◌, IsTr
 ghost use Rattle.ms_grammar.specs.Terms.{counted};
 ghost use Rattle.ms_grammar.specs.Statements.{HasFewCopies};
 
+use ms_base::limits::{MOST_CHOICES, MOST_COUNTED};
 use ms_grammar::part::Counted;
 use ms_grammar::statement::Form;
-
-/// The most copies that a statement may have.
-const MOST: u64 = 10_000;
 
 /// A number that is counted up to one more than the most copies.
 fn counted(number: u64) -> u32
     ensures { result ≡ counted number }
 {
-    number.min(MOST + 1) as u32
+    number.min(u64::from(MOST_COUNTED)) as u32
 }
 
 /// The choices of two parts side by side.
@@ -34,5 +32,5 @@ pub(crate) fn more_elements(some: u32, more: u32) -> u32
 pub(crate) fn has_few_copies(form: &Counted<Form>) -> bool
     ensures { IsTrue result ↔ HasFewCopies form.now }
 {
-    u64::from(form.choices) * (u64::from(form.elements) + 1) <= MOST
+    u64::from(form.choices) * (u64::from(form.elements) + 1) <= u64::from(MOST_CHOICES)
 }

@@ -3,13 +3,11 @@ ghost use Rattle.std.specs.Prelude.{◌≡◌, ◌+◌, ◌*◌, nat_le, if◌th
 ghost use Rattle.ms_grammar.specs.Terms.{counted};
 ghost use Rattle.ms_grammar.specs.Statements.{alone, beside, as_element};
 
+use ms_base::limits::MOST_COUNTED;
 use ms_base::memory::OutOfMemory;
 use ms_base::seq::Seq;
 use ms_grammar::part::Counted;
 use ms_grammar::term::{TextTerm, TextTerms};
-
-/// How many choices pools have is counted up to this.
-const MOST_COUNTED: u32 = 10_001;
 
 /// A part without pools.
 pub(crate) fn alone<T>(value: T) -> Counted<T>

@@ -10,13 +10,11 @@ ghost use Rattle.ms_read_part.specs.Leads.{lead_spelled, is_function, atom_of};
 ghost use Rattle.ms_read_part.specs.Cuts.{Reads};
 
 use crate::input::{Found, Input};
+use ms_base::limits::MOST_HEIGHT;
 use ms_grammar::part::{Counted, Part};
 use ms_grammar::term::TextTerm;
 use ms_read_term::read_term;
 use ms_text::token::TokenKind;
-
-/// The greatest height of a term.
-const MOST_HEIGHT: u8 = 200;
 
 /// A term that may be an atom.
 #[derive(Drop)]

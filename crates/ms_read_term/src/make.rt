@@ -1,9 +1,11 @@
 // Terms that are made of parts, where they aren't higher than a term may be.
 ghost use Rattle.std.specs.Prelude.{◌≡◌, ◌+◌, ◌*◌, suc, nat_le, [], ◌∷◌, if◌then◌else◌, Some, None, IfOk, IfSome};
-ghost use Rattle.ms_grammar.specs.Terms.{counted, most_height, round, joined, leaf, named, tuple_of, grouped, pooled};
+ghost use Rattle.ms_base.specs.Limits.{most_height};
+ghost use Rattle.ms_grammar.specs.Terms.{counted, round, joined, leaf, named, tuple_of, grouped, pooled};
 ghost use Rattle.ms_read_term.specs.Closing.{negated};
 
 use crate::row::{only, only_list};
+use ms_base::limits::{MOST_COUNTED, MOST_HEIGHT};
 use ms_base::memory::OutOfMemory;
 use ms_base::seq::{Bytes, Seq};
 use ms_grammar::part::{Part, Row, Rows};
@@ -12,17 +14,12 @@ use ms_tree::Op;
 use sqlite_items::{Boxed, Items};
 use std::alloc::Global;
 
-/// The greatest height of a term whose atom could still be read.
-const MOST_BELOW: u8 = 200;
-
-/// Up to where choices are counted.
-const MOST_COUNTED: u32 = 10_001;
-
-/// The height of a term round others, where it isn't too high.
+/// The height of a term round others, where it isn't too high: the arguments of an atom may be as high as a term, and
+/// the atom is by one higher.
 pub(crate) fn above(height: u8) -> Option<u8>
     ensures { result ≡ if nat_le (suc height) (suc most_height) then Some (suc height) else None }
 {
-    if height <= MOST_BELOW {
+    if height <= MOST_HEIGHT {
         Some(height + 1)
     } else {
         None

@@ -3,15 +3,13 @@ ghost use Rattle.std.specs.Prelude.{◌≡◌, [], ◌∷◌, IfOk, OnOk, MatchO
 ghost use Rattle.ms_grammar.specs.Values.{value_part, value_named, value_grouped, constant};
 ghost use Rattle.ms_read_value.specs.Machine.{opened, with_part, closed, closed_by_comma};
 
+use ms_base::limits::MOST_HEIGHT;
 use ms_base::memory::OutOfMemory;
 use ms_base::seq::Bytes;
 use ms_grammar::part::{ValuePart, ValueRow};
 use ms_grammar::value::{Value, Values};
 use std::alloc::Global;
 use std::marker::Model;
-
-/// How high a value may be.
-const MOST_HEIGHT: u8 = 200;
 
 /// An open bracket with the values in it so far. A parenthesis has no name.
 #[derive(Drop)]

@@ -1,5 +1,0 @@
-use Rattle.ms_growth.proofs.FreeSets.{answer_is_possible}
-use Rattle.ms_growth.proofs.answers_are_possible.Goals as goal
-
-pub returns : goal.returns
-returns c = answer_is_possible

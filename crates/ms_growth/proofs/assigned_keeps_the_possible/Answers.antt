@@ -1,5 +1,0 @@
-use Rattle.ms_growth.proofs.FreeSets.{assigned_keeps}
-use Rattle.ms_growth.proofs.assigned_keeps_the_possible.Goals as goal
-
-pub returns : goal.returns
-returns c = assigned_keeps

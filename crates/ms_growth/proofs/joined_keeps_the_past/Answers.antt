@@ -1,5 +1,0 @@
-use Rattle.ms_growth.proofs.Joining.{joined_keeps}
-use Rattle.ms_growth.proofs.joined_keeps_the_past.Goals as goal
-
-pub returns : goal.returns
-returns c = joined_keeps

@@ -1,5 +1,0 @@
-use Rattle.ms_growth.proofs.FreeSets.{by_values}
-use Rattle.ms_growth.proofs.possible_by_values.Goals as goal
-
-pub returns : goal.returns
-returns c = by_values

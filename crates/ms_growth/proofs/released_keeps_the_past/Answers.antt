@@ -1,5 +1,0 @@
-use Rattle.ms_growth.proofs.FreeSets.{released_keeps}
-use Rattle.ms_growth.proofs.released_keeps_the_past.Goals as goal
-
-pub returns : goal.returns
-returns c = released_keeps

@@ -1,0 +1,11 @@
+mod Walks
+mod FreeSets
+mod Choosing
+mod Counting
+mod Unfounded
+mod Founding
+mod Members
+mod Writing
+mod Extended
+mod Nogoods
+pub mod Growing
