@@ -133,7 +133,7 @@ fewer_left join in_set k r rule atoms s mid left looks sound same some is_marked
     let before = get_or s.left k 0 in
     let here : IsTrue (flag_at s.derived (get_or atoms (before - 1) 0)) = subst (λ xs. IsTrue (flag_at s.derived (get_or xs (before - 1) 0))) (body_is join k r rule atoms s mid looks) is_marked in
     let differs : r ≢ before = λ equal.
-        both_ways (flag_at s.derived (get_or atoms (before - 1) 0)) (subst (λ n. flag_at s.derived (get_or atoms (n - 1) 0) ≡ false) equal (looks.stuck.unmarked (subst (λ n. 0 < n) (sym equal) some))) here in
+    both_ways (flag_at s.derived (get_or atoms (before - 1) 0)) (subst (λ n. flag_at s.derived (get_or atoms (n - 1) 0) ≡ false) equal (looks.stuck.unmarked (subst (λ n. 0 < n) (sym equal) some))) here in
     let sums = sum_by-set (λ n. n) s.left k r 0 (omega (arith, looks.short, sound.rules)) in
     let total : sum left ≡ sum (set s.left k r) = ap sum (same ∙ ap (λ (m : State). m.left) looks.is) in
     omega (arith, differs, looks.stuck.fewer, sums, total)
