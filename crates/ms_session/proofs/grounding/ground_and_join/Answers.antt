@@ -1,8 +1,8 @@
+use Rattle.std.proofs.Common.{refl}
 use Rattle.std.proofs.lemmas.Result.{IfOk-weaker}
-use Rattle.ms_term.specs.Terms.{trees}
 use Rattle.ms_solving.specs.Grounding.{core_of_calls}
-use Rattle.ms_session.proofs.Stepping.{grown_base, later_step, large_step, module_steps, module_sound}
-use Rattle.ms_session.proofs.grounding.ground_calls.Goals as goal
+use Rattle.ms_session.proofs.Stepping.{grown_base, later_step, large_step, module_steps, module_sound, module_stays}
+use Rattle.ms_session.proofs.grounding.ground_and_join.Goals as goal
 
 pub join_module-requires : goal.join_module-requires
 join_module-requires c =
@@ -39,3 +39,16 @@ returns-in-Err-TooLarge-clause-keeps c = let h = rw c.in-Err-TooLarge.field-0-is
 
 pub returns-clause-keeps : goal.returns-clause-keeps
 returns-clause-keeps c = IfOk-weaker c.join_module.result _ _ (λ reply h. c.in-Ok.ensures.keeps) c.join_module.ensures
+
+pub returns-in-Err-Later-clause-back : goal.returns-in-Err-Later-clause-back
+returns-in-Err-Later-clause-back c = let h = rw c.in-Err-Later.field-0-is at c.in-Err-Later.ensures in (h.same, refl)
+
+pub returns-in-Err-TooLarge-clause-back : goal.returns-in-Err-TooLarge-clause-back
+returns-in-Err-TooLarge-clause-back c = let h = rw c.in-Err-TooLarge.field-0-is at c.in-Err-TooLarge.ensures in (h.same, refl)
+
+pub returns-clause-back : goal.returns-clause-back
+returns-clause-back c =
+    IfOk-weaker c.join_module.result _ _
+    (λ reply h. module_stays (core_of_calls c.args.parts.now c.args.calls.now) c.args.terms.now c.ground.new.terms c.args.base.now c.ground.new.base c.join_module.new.base c.args.join.now
+    c.join_module.new.join c.in-Ok.ground_module c.mark-mark.result reply c.mark-mark.ensures c.in-Ok.ensures h)
+    c.join_module.ensures
