@@ -54,14 +54,20 @@ impl Terms {
             (_, Shape::Text(_)) => Comparison::Decided(Ordering::Greater),
             (
                 Shape::Function {
-                    name, arguments, ..
+                    name,
+                    arguments,
+                    ..
                 },
                 Shape::Function {
                     name: other_name,
                     arguments: others,
                     ..
                 },
-            ) => match arguments.len().cmp(&others.len()).then(name.cmp(other_name)) {
+            ) => match arguments
+                .len()
+                .cmp(&others.len())
+                .then(name.cmp(other_name))
+            {
                 Ordering::Equal => self.compare_arguments(arguments, others),
                 differ => Comparison::Decided(differ),
             },

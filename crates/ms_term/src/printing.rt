@@ -23,7 +23,9 @@ impl Terms {
             Shape::Number(n) => print_number(n, into),
             Shape::Text(bytes) => print_string(bytes, into),
             Shape::Function {
-                name, arguments, ..
+                name,
+                arguments,
+                ..
             } => self.print_function(name, arguments, into),
         }
     }

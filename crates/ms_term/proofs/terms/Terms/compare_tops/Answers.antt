@@ -25,10 +25,10 @@ returns-in-Equal c =
     let ts = c.args.self.now in
     let f = c.in-Function-Function in
     let tops : c.then.result ≡ ordering_then (nat_cmp (length f.arguments.now) (length f.others.now)) (slice_cmp nat_cmp f.name.now f.other_name.now) =
-        c.then.ensures ∙ (ap (λ o. ordering_then o c.cmp-in-Function-Function-2.result) c.cmp-in-Function-Function.ensures ∙ ap (λ o. ordering_then (nat_cmp (length f.arguments.now) (length f.others.now)) o) c.cmp-in-Function-Function-2.ensures) in
+    c.then.ensures ∙ (ap (λ o. ordering_then o c.cmp-in-Function-Function-2.result) c.cmp-in-Function-Function.ensures ∙ ap (λ o. ordering_then (nat_cmp (length f.arguments.now) (length f.others.now)) o) c.cmp-in-Function-Function-2.ensures) in
     let same = by_arguments ts f.name.now f.other_name.now f.arguments.now f.others.now c.then.result tops c.in-Equal.is in
     let whole : compare_trees (function f.name.now (terms_at ts f.arguments.now)) (function f.other_name.now (terms_at ts f.others.now)) ≡ compare_trees (term_at ts c.args.a) (term_at ts c.args.b) =
-        ap (λ t. compare_trees t (function f.other_name.now (terms_at ts f.others.now))) (sym f.ensures.is) ∙ ap (λ t. compare_trees (term_at ts c.args.a) t) (sym f.ensures'.is) in
+    ap (λ t. compare_trees t (function f.other_name.now (terms_at ts f.others.now))) (sym f.ensures.is) ∙ ap (λ t. compare_trees (term_at ts c.args.a) t) (sym f.ensures'.is) in
     subst (λ order. IsComparison ts c.args.a order c.compare_arguments.result) (same ∙ whole) (c.compare_arguments.ensures c.args.a f.ensures.below)
 
 pub returns-in_default : goal.returns-in_default
@@ -36,7 +36,7 @@ returns-in_default c =
     let ts = c.args.self.now in
     let f = c.in-Function-Function in
     let tops : c.then.result ≡ ordering_then (nat_cmp (length f.arguments.now) (length f.others.now)) (slice_cmp nat_cmp f.name.now f.other_name.now) =
-        c.then.ensures ∙ (ap (λ o. ordering_then o c.cmp-in-Function-Function-2.result) c.cmp-in-Function-Function.ensures ∙ ap (λ o. ordering_then (nat_cmp (length f.arguments.now) (length f.others.now)) o) c.cmp-in-Function-Function-2.ensures) in
+    c.then.ensures ∙ (ap (λ o. ordering_then o c.cmp-in-Function-Function-2.result) c.cmp-in-Function-Function.ensures ∙ ap (λ o. ordering_then (nat_cmp (length f.arguments.now) (length f.others.now)) o) c.cmp-in-Function-Function-2.ensures) in
     let whole : compare_trees (function f.name.now (terms_at ts f.arguments.now)) (function f.other_name.now (terms_at ts f.others.now)) ≡ compare_trees (term_at ts c.args.a) (term_at ts c.args.b) =
-        ap (λ t. compare_trees t (function f.other_name.now (terms_at ts f.others.now))) (sym f.ensures.is) ∙ ap (λ t. compare_trees (term_at ts c.args.a) t) (sym f.ensures'.is) in
+    ap (λ t. compare_trees t (function f.other_name.now (terms_at ts f.others.now))) (sym f.ensures.is) ∙ ap (λ t. compare_trees (term_at ts c.args.a) t) (sym f.ensures'.is) in
     by_tops ts f.name.now f.other_name.now f.arguments.now f.others.now c.then.result tops c.in_default.not-Equal ∙ whole
