@@ -5,10 +5,6 @@
 -- Rules with aggregates aren't ground yet.
 use Rattle.std.specs.Prelude.{ℕ, ◌≡◌, ◌↔◌, List, [], ◌++◌, Option, Some, None, All, Any, Contains, IsSomeAnd, length, slice_get}
 use Rattle.std.specs.List.Sorted.{IsStrictlyIncreasing, IsStrictlySortedBy}
-use Rattle.std.specs.declared.cmp.Ordering.{Ordering}
-use Rattle.std.specs.Ordering.{nat_cmp, ordering_then}
-use Rattle.std.specs.Option.{option_cmp}
-use Rattle.std.specs.Cmp.Lexicographic.{slice_cmp}
 use Rattle.ms_tree.specs.Tree.{Tree}
 use Rattle.ms_tree.specs.Order.{compare_trees}
 use Rattle.ms_core.specs.declared.pattern.Pattern.{Pattern}
@@ -19,6 +15,7 @@ use Rattle.ms_join.specs.declared.ground_rule.GroundRule.{GroundRule}
 use Rattle.ms_join.specs.declared.ground_rule.GroundKind.{GroundKind}
 use Rattle.ms_join.specs.declared.ground_rule.GroundKind.TheVariants.{Normal as normal, Choice as choice, Constraint as constraint}
 use Rattle.ms_join.specs.declared.ground_module.GroundModule.{GroundModule}
+use Rattle.ms_join.specs.Orders.{compare_rules}
 use Rattle.ms_copies.specs.Evaluating.{Chosen, value}
 use Rattle.ms_copies.specs.Choosing.{IsCopy}
 use Rattle.ms_copies.specs.Grounding.{head_under, IsHead, IsExternal, IsKnown}
@@ -55,18 +52,7 @@ pub record IsLeft (atoms : List Tree) (rule : CoreRule) (chosen : Chosen) (left 
   pub known : All (IsAmong atoms chosen) rule.conds.pos
   pub pos : AreNumbers atoms (IsValueOf chosen rule.conds.pos) left.pos
   pub neg : AreNumbers atoms (IsValueOf chosen rule.conds.neg) left.neg
-
--- the order of kinds: normal rules, choices, constraints
-abbrev pub kind_rank : GroundKind → ℕ
-kind_rank normal = 0
-kind_rank choice = 1
-kind_rank constraint = 2
-
-abbrev pub compare_rules : GroundRule → GroundRule → Ordering
-compare_rules a b =
-    ordering_then (nat_cmp (kind_rank a.kind) (kind_rank b.kind))
-    (ordering_then (option_cmp nat_cmp a.head b.head)
-    (ordering_then (slice_cmp nat_cmp a.pos b.pos) (slice_cmp nat_cmp a.neg b.neg)))
+  pub plain : left.aggs ≡ []
 
 -- The rules that copies leave, as a set.
 pub record AreLeft (atoms : List Tree) (rules : List CoreRule) (left : List GroundRule) : Type 0 where

@@ -17,7 +17,7 @@ use Rattle.ms_core.specs.Replacing.{Meaning, replaced_form}
 use Rattle.ms_core.specs.Texts.{Texts, PartName, core_of_call, core_of_form, core_where, meaning_of}
 use Rattle.ms_call.specs.declared.command.Call.{Call}
 use Rattle.ms_instances.specs.Naming.{IsHeadedRule}
-use Rattle.ms_machine.specs.Grounding.{core_of_calls}
+use Rattle.ms_solving.specs.Grounding.{core_of_calls}
 
 pub All-flat_map : {X Y : Type 0} (P : Y → Type 0) (f : X → List Y) → ((x : X) → All P (f x)) → (xs : List X) → All P (flat_map f xs)
 All-flat_map P f all [] = All-nil P

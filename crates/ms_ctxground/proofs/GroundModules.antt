@@ -163,6 +163,7 @@ module _ (table : List Tree) (different : AllDifferent table) (instances : List 
       head = has_head new i.kind i.head g.kind g.head is_headed is.kind is.head;
       pos = within_base new i.pos g.pos is.pos;
       neg = within_base new i.neg g.neg is.neg;
+      plain = is.plain;
     }
 
     head_listed : (i : Instance) (g : GroundRule) (number : Option ℕ) → Contains instances i → IsHeaded i.kind i.head → ground_kind i.kind ≡ Some g.kind → (head : Option ℕ) → i.head ≡ head → IsNumberOfHead new head number → IfSome number (Contains m.heads)

@@ -1,7 +1,6 @@
 pub mod Front
 pub mod Numbered
 pub mod Rules
-pub mod SameRules
 pub mod Members
 pub mod NamedTerms
 pub mod Added

@@ -70,6 +70,7 @@ module _ (table : List Tree) (different : AllDifferent table) where
       known = all_terms base i.pos is.known;
       pos = numbers_of_terms base i.pos g.pos base_below named.pos is.pos;
       neg = numbers_of_terms base i.neg g.neg base_below named.neg is.neg;
+      plain = is.plain;
     }
 
     pub left_in_terms : (instances : List Instance) (rules : List GroundRule) → All (IsNamed (length table)) instances → AreLeftInOrder base instances rules → AreLeftBy (map tree_of base) (map (said_by table) instances) rules

@@ -1,9 +1,10 @@
 -- The ground rules that instances leave over a base, which is a list of names.
-use Rattle.std.specs.Prelude.{ℕ, ◌≡◌, List, Option, Some, MatchOption, All, Any, Contains}
+use Rattle.std.specs.Prelude.{ℕ, ◌≡◌, List, [], Option, Some, MatchOption, All, Any, Contains}
 use Rattle.std.specs.List.Sorted.{IsStrictlySortedBy}
 use Rattle.ms_join.specs.declared.ground_rule.GroundRule.{GroundRule}
 use Rattle.ms_join.specs.declared.ground_rule.GroundKind.{GroundKind}
-use Rattle.ms_copies.specs.Simplifying.{ground_kind, compare_rules}
+use Rattle.ms_join.specs.Orders.{compare_rules}
+use Rattle.ms_copies.specs.Simplifying.{ground_kind}
 use Rattle.ms_instances.specs.declared.instance.Instance.{Instance}
 use Rattle.ms_ctxground.specs.Numbering.{AreNumbersOf, IsNumberOfHead}
 
@@ -14,6 +15,7 @@ pub record IsLeftBy (base : List ℕ) (i : Instance) (left : GroundRule) : Type 
   pub known : All (Contains base) i.pos
   pub pos : AreNumbersOf base i.pos left.pos
   pub neg : AreNumbersOf base i.neg left.neg
+  pub plain : left.aggs ≡ []
 
 -- The instance leaves a rule: it declares no external, and its positive atoms are all in the base.
 abbrev pub MustLeave : List ℕ → Instance → Type 0

@@ -7,6 +7,7 @@ ghost use Rattle.ms_ctxground.specs.LeftRules.{AreAllLeft, IsLeftOrNone};
 
 use crate::numbers::{numbers_of_all, numbers_of_known};
 use ms_atombase::{AtomBase, AtomId};
+use ms_base::seq::Seq;
 use ms_core::rule::RuleKind;
 use ms_instances::Instance;
 use ms_join::ground_rule::{GroundKind, GroundRule};
@@ -52,6 +53,7 @@ fn left_rule(
         head: head_number(base, instance.head),
         pos,
         neg,
+        aggs: Seq::new(alloc),
     }))
 }
 

@@ -13,17 +13,17 @@ use Rattle.ms_join.specs.AnswerSets.{set_of}
 use Rattle.ms_join.specs.Modules.{IsInput}
 use Rattle.ms_copies.specs.Grounding.{IsHead}
 use Rattle.ms_copies.specs.Simplifying.{AreNumbers}
-use Rattle.ms_machine.specs.Grounding.{core_of_calls}
-use Rattle.ms_machine.specs.Listing.{IsAnswer}
+use Rattle.ms_solving.specs.Grounding.{core_of_calls}
+use Rattle.ms_solving.specs.Listing.{IsAnswer}
 use Rattle.ms_machine.specs.Machine.{State, start}
-use Rattle.ms_machine.specs.Replies.{Reply}
+use Rattle.ms_machine.specs.Replies.{Output}
 use Rattle.ms_machine.specs.Scripts.{Run}
 use Rattle.ms_released.specs.Released.{IsReached}
 use Rattle.ms_released.proofs.Reaching.{IsOrderly, orderly_after, orderly_start, within_names}
 use Rattle.ms_released.proofs.Staying.{input_of, joined_heads, name_stays}
 use Rattle.ms_released.proofs.Steps.{Grows, Stays, same, takes_changes}
 use Rattle.ms_join.specs.Possible.{IsPossible, cut}
-use Rattle.ms_possible.proofs.Cutting.{IsBelow, below_more, cut_twice}
+use Rattle.ms_possible.proofs.Cutting.{IsBelow, plain_below, below_more, cut_twice}
 use Rattle.ms_possible.proofs.FreeSets.{answer_is_possible}
 use Rattle.ms_possible.proofs.Joining.{cut_is_possible, join_extends}
 
@@ -50,6 +50,7 @@ fresh_below old new grows k d within =
           ((module_is.heads.members h).0 (joined_heads old grows.calls grows.atoms grows.count new grows.joins k d within h head));
       pos = numbers_below atoms _ (get_or grows.joins.ground_module.rules k d).pos left.pos;
       neg = numbers_below atoms _ (get_or grows.joins.ground_module.rules k d).neg left.neg;
+      aggs = plain_below (length atoms) (get_or grows.joins.ground_module.rules k d) left.plain;
     }
 
 closed_still : (old new : State) → Stays old new → IsClosed old → All (IsBelow new.join.atoms) new.join.rules
@@ -73,15 +74,15 @@ closed_after old new (inr grows) is =
     let now = orderly_after old new (inr grows) is.orderly in
     record { orderly = now; below = closed_grown old new grows is now }
 
-closed_run : (old new : State) (items : List Item) (replies : List Reply) → IsClosed old → Run old items replies new → IsClosed new
+closed_run : (old new : State) (items : List Item) (outputs : List Output) → IsClosed old → Run old items outputs new → IsClosed new
 unfolding Run
 closed_run old new [] [] is run = subst IsClosed (sym run) is
-closed_run old new (item ∷ items) (reply ∷ replies) is (mid, takes, run) = closed_run mid new items replies (closed_after old mid (takes_changes old item reply mid takes) is) run
-closed_run old new [] (reply ∷ replies) is run = absurd run
+closed_run old new (item ∷ items) (output ∷ outputs) is (mid, takes, run) = closed_run mid new items outputs (closed_after old mid (takes_changes old item output mid takes) is) run
+closed_run old new [] (output ∷ outputs) is run = absurd run
 closed_run old new (item ∷ items) [] is run = absurd run
 
 closed_reached : (s : State) → IsReached s → IsClosed s
-closed_reached s reached = closed_run start s reached.items reached.replies closed_start reached.run
+closed_reached s reached = closed_run start s reached.items reached.outputs closed_start reached.run
 
 -- ---- what is possible
 
@@ -108,40 +109,40 @@ base_grows : (old new : State) → Stays old new ⊎ Grows old new → old.join.
 base_grows old new (inl stays) = omega (arith, stays.atoms)
 base_grows old new (inr grows) = let atoms : new.join.atoms ≡ old.join.atoms + grows.joins.ground_module.fresh = grows.joins.joined.atoms in omega (arith, atoms)
 
-cut_run : (old new : State) (items : List Item) (replies : List Reply) (set : ℕ → Bool) → IsClosed old → Run old items replies new
+cut_run : (old new : State) (items : List Item) (outputs : List Output) (set : ℕ → Bool) → IsClosed old → Run old items outputs new
     → IsPossible new.join set → IsPossible old.join (cut old.join.atoms set)
 unfolding Run
 cut_run old new [] [] set is run possible = cut_after old new set (same old new run) is possible
-cut_run old new (item ∷ items) (reply ∷ replies) set is (mid, takes, run) possible =
-    let change = takes_changes old item reply mid takes in
-    let before = cut_run mid new items replies set (closed_after old mid change is) run possible in
+cut_run old new (item ∷ items) (output ∷ outputs) set is (mid, takes, run) possible =
+    let change = takes_changes old item output mid takes in
+    let before = cut_run mid new items outputs set (closed_after old mid change is) run possible in
     subst (IsPossible old.join) (cut_twice old.join.atoms mid.join.atoms set (base_grows old mid change))
     (cut_after old mid (cut mid.join.atoms set) change is before)
-cut_run old new [] (reply ∷ replies) set is run possible = absurd run
+cut_run old new [] (output ∷ outputs) set is run possible = absurd run
 cut_run old new (item ∷ items) [] set is run possible = absurd run
 
-pub past_stays : (old new : State) (items : List Item) (replies : List Reply) (set : ℕ → Bool) → IsReached old → Run old items replies new
+pub past_stays : (old new : State) (items : List Item) (outputs : List Output) (set : ℕ → Bool) → IsReached old → Run old items outputs new
     → IsPossible new.join set → IsPossible old.join (cut old.join.atoms set)
-past_stays old new items replies set reached run possible = cut_run old new items replies set (closed_reached old reached) run possible
+past_stays old new items outputs set reached run possible = cut_run old new items outputs set (closed_reached old reached) run possible
 
 -- ---- names and consequences
 
-pub names_kept : (old new : State) (items : List Item) (replies : List Reply) → Run old items replies new
+pub names_kept : (old new : State) (items : List Item) (outputs : List Output) → Run old items outputs new
     → (a : ℕ) (t : Tree) → slice_get old.names a ≡ Some t → slice_get new.names a ≡ Some t
 unfolding Run
 names_kept old new [] [] run a t at = subst (λ (s : State). slice_get s.names a ≡ Some t) (sym run) at
-names_kept old new (item ∷ items) (reply ∷ replies) (mid, takes, run) a t at =
-    names_kept mid new items replies run a t (name_stays old mid (takes_changes old item reply mid takes) a t at)
-names_kept old new [] (reply ∷ replies) run a t at = absurd run
+names_kept old new (item ∷ items) (output ∷ outputs) (mid, takes, run) a t at =
+    names_kept mid new items outputs run a t (name_stays old mid (takes_changes old item output mid takes) a t at)
+names_kept old new [] (output ∷ outputs) run a t at = absurd run
 names_kept old new (item ∷ items) [] run a t at = absurd run
 
-pub consequence_stays : (old new : State) (items : List Item) (replies : List Reply) (holds : (ℕ → Bool) → Bool) → IsReached old → Run old items replies new
+pub consequence_stays : (old new : State) (items : List Item) (outputs : List Output) (holds : (ℕ → Bool) → Bool) → IsReached old → Run old items outputs new
     → ((set : ℕ → Bool) → IsPossible old.join set → IsTrue (holds set))
     → (set : ℕ → Bool) → IsPossible new.join set → IsTrue (holds (cut old.join.atoms set))
-consequence_stays old new items replies holds reached run every set possible = every (cut old.join.atoms set) (past_stays old new items replies set reached run possible)
+consequence_stays old new items outputs holds reached run every set possible = every (cut old.join.atoms set) (past_stays old new items outputs set reached run possible)
 
-pub consequence_holds : (old new : State) (items : List Item) (replies : List Reply) (holds : (ℕ → Bool) → Bool) → IsReached old → Run old items replies new
+pub consequence_holds : (old new : State) (items : List Item) (outputs : List Output) (holds : (ℕ → Bool) → Bool) → IsReached old → Run old items outputs new
     → ((set : ℕ → Bool) → IsPossible old.join set → IsTrue (holds set))
     → (assume : List Assumption) (set : List ℕ) → IsAnswer new.names new.join assume set → IsTrue (holds (cut old.join.atoms (set_of set)))
-consequence_holds old new items replies holds reached run every assume set answer =
-    consequence_stays old new items replies holds reached run every (set_of set) (answer_is_possible new.join (set_of set) answer.answers)
+consequence_holds old new items outputs holds reached run every assume set answer =
+    consequence_stays old new items outputs holds reached run every (set_of set) (answer_is_possible new.join (set_of set) answer.answers)

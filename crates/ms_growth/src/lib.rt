@@ -26,7 +26,7 @@ pub fn consequences_hold()
     ensures { ConsequencesHold }
 {}
 
-/// No later solve lists an atom that no possible set has.
+/// No later reply lists an atom that no possible set has.
 pub fn ruled_out_is_never_listed()
     ensures { RuledOutIsNeverListed }
 {}

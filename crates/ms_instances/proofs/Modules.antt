@@ -116,6 +116,7 @@ leaves_left atoms rule chosen s g said leaves = record {
   known = known_to atoms chosen rule.conds.pos s.pos said.pos leaves.known;
   pos = numbers_same atoms (Contains s.pos) (IsValueOf chosen rule.conds.pos) g.pos (λ t. among_values chosen rule.conds.pos s.pos t said.pos) (value_of_among chosen rule.conds.pos s.pos said.pos) leaves.pos;
   neg = numbers_same atoms (Contains s.neg) (IsValueOf chosen rule.conds.neg) g.neg (λ t. among_values chosen rule.conds.neg s.neg t said.neg) (value_of_among chosen rule.conds.neg s.neg said.neg) leaves.neg;
+  plain = leaves.plain;
 }
 
 abbrev IsLeftOf : List Tree → GroundRule → CoreRule → Type 0

@@ -1,6 +1,6 @@
 -- What the copies of core rules say, and the ground module that they have over a base.
 -- A ground instance is what is left of a rule under one choice of integers for its ranges.
-use Rattle.std.specs.Prelude.{ℕ, ◌≡◌, ◌++◌, ◌⊎◌, ◌↔◌, List, Option, Some, None, All, Any, Contains, length, map, option_map, Bool, true}
+use Rattle.std.specs.Prelude.{ℕ, ◌≡◌, ◌++◌, ◌⊎◌, ◌↔◌, List, [], Option, Some, None, All, Any, Contains, length, map, option_map, Bool, true}
 use Rattle.std.specs.List.Sorted.{IsStrictlySortedBy}
 use Rattle.ms_tree.specs.Tree.{Tree}
 use Rattle.ms_tree.specs.Order.{compare_trees}
@@ -10,8 +10,9 @@ use Rattle.ms_core.specs.declared.rule.RuleKind.TheVariants.{Normal, Choice, Con
 use Rattle.ms_join.specs.declared.ground_rule.GroundRule.{GroundRule}
 use Rattle.ms_join.specs.declared.ground_rule.GroundKind.{GroundKind}
 use Rattle.ms_join.specs.declared.ground_module.GroundModule.{GroundModule}
+use Rattle.ms_join.specs.Orders.{compare_rules}
 use Rattle.ms_copies.specs.Grounding.{gives_head, gives_external}
-use Rattle.ms_copies.specs.Simplifying.{ground_kind, IsNumbered, AreNumbers, compare_rules}
+use Rattle.ms_copies.specs.Simplifying.{ground_kind, IsNumbered, AreNumbers}
 use Rattle.ms_instances.specs.declared.instance.Instance.{Instance}
 
 -- what a copy says, by its terms
@@ -45,6 +46,7 @@ pub record Leaves (atoms : List Tree) (s : Said) (left : GroundRule) : Type 0 wh
   pub known : All (Contains atoms) s.pos
   pub pos : AreNumbers atoms (Contains s.pos) left.pos
   pub neg : AreNumbers atoms (Contains s.neg) left.neg
+  pub plain : left.aggs ≡ []
 
 pub record AreLeftBy (atoms : List Tree) (said : List Said) (left : List GroundRule) : Type 0 where
   pub rising : IsStrictlySortedBy compare_rules left

@@ -6,7 +6,7 @@ use ms_term::TermId;
 pub type TermIds = Seq<TermId>;
 
 /// What an aggregate computes of the tuples whose conditions hold.
-#[derive(Clone, Copy, Debug, PartialEq, Eq, PartialOrd, Ord)]
+#[derive(Clone, Copy, Debug, PartialEq, Eq, PartialOrd, Ord, Hash)]
 pub enum AggFn3 {
     /// Their number.
     Count,
@@ -15,7 +15,7 @@ pub enum AggFn3 {
 }
 
 /// How a value is compared with a bound.
-#[derive(Clone, Copy, Debug, PartialEq, Eq, PartialOrd, Ord)]
+#[derive(Clone, Copy, Debug, PartialEq, Eq, PartialOrd, Ord, Hash)]
 pub enum Cmp3 {
     Eq,
     Ne,
@@ -26,7 +26,7 @@ pub enum Cmp3 {
 }
 
 /// An element of an aggregate: a tuple of at least one term, and the condition under which it counts.
-#[derive(Debug, Drop, PartialEq, Eq, PartialOrd, Ord)]
+#[derive(Debug, Drop, PartialEq, Eq, PartialOrd, Ord, Hash)]
 pub struct GroundElement {
     pub tuple: TermIds,
     /// The first term of the tuple, where that is an integer.
@@ -39,7 +39,7 @@ pub struct GroundElement {
 pub type GroundElements = Seq<GroundElement>;
 
 /// A bound on the value of an aggregate, which stands on the left of it.
-#[derive(Clone, Copy, Debug, PartialEq, Eq, PartialOrd, Ord)]
+#[derive(Clone, Copy, Debug, PartialEq, Eq, PartialOrd, Ord, Hash)]
 pub struct GroundGuard {
     pub cmp: Cmp3,
     pub bound: TermId,
@@ -51,7 +51,7 @@ pub struct GroundGuard {
 pub type GroundGuards = Seq<GroundGuard>;
 
 /// An aggregate. It holds where its value meets each guard, and always where it has none.
-#[derive(Debug, Drop, PartialEq, Eq, PartialOrd, Ord)]
+#[derive(Debug, Drop, PartialEq, Eq, PartialOrd, Ord, Hash)]
 pub struct GroundAgg {
     pub function: AggFn3,
     pub elements: GroundElements,
@@ -59,7 +59,7 @@ pub struct GroundAgg {
 }
 
 /// An aggregate in a body, negated or not.
-#[derive(Debug, Drop, PartialEq, Eq, PartialOrd, Ord)]
+#[derive(Debug, Drop, PartialEq, Eq, PartialOrd, Ord, Hash)]
 pub struct SignedAgg {
     pub negated: bool,
     pub agg: GroundAgg,

@@ -2,7 +2,7 @@ use ms_base::atom_id::AtomId;
 use ms_base::seq::Seq;
 
 /// An atom that is taken for true or false.
-#[derive(Clone, Copy, Debug, PartialEq, Eq)]
+#[derive(Clone, Copy, Debug, PartialEq, Eq, PartialOrd, Ord, Hash)]
 pub struct AtomLit {
     pub atom: AtomId,
     pub truth: bool,

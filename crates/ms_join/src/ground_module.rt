@@ -1,4 +1,4 @@
-use crate::aggregate::TermIds;
+pub use crate::aggregate::TermIds;
 use crate::ground_rule::{AtomIds, GroundRules};
 
 /// What a grounding adds to a base. The new atoms have the numbers from `first_new` on, `fresh` of them, and

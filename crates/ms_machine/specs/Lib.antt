@@ -1,5 +1,3 @@
-pub mod Listing
 pub mod Replies
-pub mod Grounding
 pub mod Machine
 pub mod Scripts

@@ -1,6 +1,6 @@
-use ms_base::seq::{Bytes, Seq};
+use ms_base::seq::Bytes;
 pub use ms_lits::Ending;
-use ms_term::TermId;
+pub use ms_solving::shown::Shown;
 
 /// Why a command was refused. A refused command changes nothing. Atoms are given by their texts.
 #[derive(Debug, Drop, PartialEq, Eq)]
@@ -17,18 +17,17 @@ pub enum Refusal {
     Later,
     /// The grounding has more than 1,000,000 copies of rules, or an atom of more than 2,000 symbols.
     TooLarge,
-    /// The join would have more than 4,000,000 atoms and bodies.
+    /// The join would have more than 4,000,000 things: atoms, bodies, tuples and aggregates.
     TooMany,
     /// A head of the module is an output already: the least such head.
     Redefined { atom: Bytes },
     /// A head of the module and an old output are in one component: the least such head, and the least output there.
     CrossLoop { new_head: Bytes, old: Bytes },
+    /// A head depends through an aggregate on an atom of its own component: the least such head.
+    RecursiveAggregate { atom: Bytes },
     /// The base has too many atoms to try every set of them.
     Small,
 }
-
-/// The shown atoms of each listed answer set, by their names in the table of terms.
-pub type Shown = Seq<Seq<TermId>>;
 
 /// The reply to one command.
 #[derive(Debug, Drop)]

@@ -17,7 +17,7 @@ use Rattle.ms_core.specs.Pools.{form_copies}
 use Rattle.ms_core.specs.Replacing.{Meaning, replaced_form}
 use Rattle.ms_core.specs.Texts.{Texts, PartName, core_of_call, core_of_form, core_where, meaning_of}
 use Rattle.ms_call.specs.declared.command.Call.{Call}
-use Rattle.ms_machine.specs.Grounding.{core_of_calls}
+use Rattle.ms_solving.specs.Grounding.{core_of_calls}
 
 abbrev pub HasHeadByKind : CoreRule → Type 0
 HasHeadByKind r = r.kind ≡ Constraint → r.head ≡ None

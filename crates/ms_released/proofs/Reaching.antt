@@ -13,10 +13,10 @@ use Rattle.ms_join.specs.declared.ground_module.GroundModule.{GroundModule}
 use Rattle.ms_join.specs.declared.ground_rule.GroundRule.{GroundRule}
 use Rattle.ms_join.specs.Modules.{IsInput, IsOutput, IsReleased}
 use Rattle.ms_copies.specs.Grounding.{IsHead}
-use Rattle.ms_machine.specs.Grounding.{core_of_calls}
-use Rattle.ms_machine.specs.Listing.{tree_of_value}
-use Rattle.ms_machine.specs.Machine.{State, start, IsInputNamed, Step}
-use Rattle.ms_machine.specs.Replies.{Reply, released}
+use Rattle.ms_solving.specs.Grounding.{core_of_calls}
+use Rattle.ms_solving.specs.Listing.{tree_of_value}
+use Rattle.ms_machine.specs.Machine.{State, start, IsInputNamed, Answers}
+use Rattle.ms_machine.specs.Replies.{Output, Reply, released}
 use Rattle.ms_machine.specs.Scripts.{Run}
 use Rattle.ms_released.specs.Released.{IsFalseForGood, IsReached, IsTheOne}
 use Rattle.ms_released.proofs.Names.{HasEachOnce, each_once_in_both, each_once_in_order}
@@ -72,18 +72,18 @@ pub orderly_after : (old new : State) → Stays old new ⊎ Grows old new → Is
 orderly_after old new (inl stays) is = orderly_still old new stays is
 orderly_after old new (inr grows) is = orderly_grown old new grows is
 
-pub orderly_step : (old new : State) (c : Command) (reply : Reply) → IsOrderly old → Step old c reply new → IsOrderly new
+pub orderly_step : (old new : State) (c : Command) (reply : Reply) → IsOrderly old → Answers old c reply new → IsOrderly new
 orderly_step old new c reply is step = orderly_after old new (changes old c reply new step) is
 
-pub orderly_run : (old new : State) (items : List Item) (replies : List Reply) → IsOrderly old → Run old items replies new → IsOrderly new
+pub orderly_run : (old new : State) (items : List Item) (outputs : List Output) → IsOrderly old → Run old items outputs new → IsOrderly new
 unfolding Run
 orderly_run old new [] [] is run = subst IsOrderly (sym run) is
-orderly_run old new (item ∷ items) (reply ∷ replies) is (mid, takes, run) = orderly_run mid new items replies (orderly_after old mid (takes_changes old item reply mid takes) is) run
-orderly_run old new [] (reply ∷ replies) is run = absurd run
+orderly_run old new (item ∷ items) (output ∷ outputs) is (mid, takes, run) = orderly_run mid new items outputs (orderly_after old mid (takes_changes old item output mid takes) is) run
+orderly_run old new [] (output ∷ outputs) is run = absurd run
 orderly_run old new (item ∷ items) [] is run = absurd run
 
 pub orderly_reached : (s : State) → IsReached s → IsOrderly s
-orderly_reached s reached = orderly_run start s reached.items reached.replies orderly_start reached.run
+orderly_reached s reached = orderly_run start s reached.items reached.outputs orderly_start reached.run
 
 -- the head of no rule is an input
 no_rule_of : (s : State) (a : ℕ) → IsOrderly s → IsInput s.join a → All (λ rule. rule.head ≡ Some a → ⊥) s.join.rules
@@ -107,7 +107,7 @@ released_one old new t a is named out names = (
   },
 )
 
-pub release_is_for_good : (old new : State) (atom : Value) → IsReached old → Step old (Release atom) released new
+pub release_is_for_good : (old new : State) (atom : Value) → IsReached old → Answers old (Release atom) released new
     → (a : ℕ) × IsTheOne new.names (tree_of_value atom) a × IsFalseForGood new.join a
 release_is_for_good old new atom reached ((a, named, out), texts, names) =
     let both = released_one old new (tree_of_value atom) a (orderly_reached old reached) named out names in

@@ -7,17 +7,18 @@ use Rattle.std.proofs.lemmas.List.Elements.{All-cons, All-head, All-nil, All-tai
 use Rattle.std.proofs.lemmas.List.Sorted.{All-permutation}
 use Rattle.ms_tree.specs.Tree.{Tree}
 use Rattle.ms_grammar.specs.declared.value.Value.{Value}
-use Rattle.ms_lits.specs.declared.note.Ending.{Ending}
 use Rattle.ms_call.specs.declared.command.Assumption.{Assumption}
 use Rattle.ms_call.specs.declared.command.Call.{Call}
-use Rattle.ms_call.specs.declared.command.Command.TheVariants.{Ground, Release, Solve}
+use Rattle.ms_call.specs.declared.command.Command.{Command}
+use Rattle.ms_call.specs.declared.command.Command.TheVariants.{Add, Assign, Ground, Release, Solve}
 use Rattle.ms_join.specs.AnswerSets.{set_of}
 use Rattle.ms_join.specs.Modules.{IsInput}
 use Rattle.ms_copies.specs.Grounding.{IsHead}
-use Rattle.ms_machine.specs.Grounding.{core_of_calls}
-use Rattle.ms_machine.specs.Listing.{HasAtom, IsAnswer, IsShownList, tree_of_value}
-use Rattle.ms_machine.specs.Machine.{State, IsInputNamed, Step, shows_atom}
-use Rattle.ms_machine.specs.Replies.{grounded, released, solved}
+use Rattle.ms_solving.specs.Grounding.{core_of_calls}
+use Rattle.ms_solving.specs.Listing.{HasAtom, IsAnswer, IsShownList, tree_of_value}
+use Rattle.ms_solving.specs.Showing.{shows_atom}
+use Rattle.ms_machine.specs.Machine.{State, IsInputNamed, Answers}
+use Rattle.ms_machine.specs.Replies.{Reply, added, assigned, grounded, listing_of, no_effect, refused, released, solved}
 use Rattle.ms_released.specs.Released.{IsFalseForGood, IsTheOne, WasReleased}
 use Rattle.ms_released.proofs.Names.{at_front}
 use Rattle.ms_released.proofs.Reaching.{orderly_reached, orderly_run, orderly_step, release_is_for_good}
@@ -33,9 +34,9 @@ record IsLost (s : State) (t : Tree) : Type 0 where
 lost : (atom : Value) (s : State) → WasReleased atom s → IsLost s (tree_of_value atom)
 lost atom s was =
     let (a, one, lies) = release_is_for_good was.before was.after atom was.reached was.release in
-    let later = stays_false was.after s was.items was.replies a lies was.since in
+    let later = stays_false was.after s was.items was.outputs a lies was.since in
     let named : slice_get s.names a ≡ Some (tree_of_value atom) = later.1 (tree_of_value atom) one.named in
-    let is = orderly_run was.after s was.items was.replies (orderly_step was.before was.after (Release atom) released (orderly_reached was.before was.reached) was.release) was.since in
+    let is = orderly_run was.after s was.items was.outputs (orderly_step was.before was.after (Release atom) released (orderly_reached was.before was.reached) was.release) was.since in
     record {
       atom = a;
       one = record { named = named; only = λ b at. is.each_once b a (tree_of_value atom) at named };
@@ -70,19 +71,33 @@ none_shown shows names t (set ∷ sets) (shown ∷ lists) lacks zip =
 none_shown shows names t [] (shown ∷ lists) lacks zip = absurd zip
 none_shown shows names t (set ∷ sets) [] lacks zip = absurd zip
 
-pub never_listed : (atom : Value) (old new : State) (asked limit : ℕ) (assume : List Assumption) (ending : Ending) (count most : ℕ) (listing : List (List Tree))
-    → WasReleased atom old → Step old (Solve asked limit assume) (solved ending count most listing) new
-    → All (λ shown. ¬ Contains shown (tree_of_value atom)) listing
-never_listed atom old new asked limit assume ending count most listing was step =
-    let t : Tree = tree_of_value atom in
-    let gone = lost atom old was in
+-- what a reply lists comes of answer sets, each of which lacks the term
+pub listed_without : (s new : State) (t : Tree) (command : Command) (reply : Reply)
+    → ((assume : List Assumption) (set : List ℕ) → IsAnswer s.names s.join assume set → ¬ HasAtom s.names set t)
+    → Answers s command reply new → All (λ shown. ¬ Contains shown t) (listing_of reply)
+listed_without s new t (Solve asked limit assume) (solved ending count most listing) lacks step =
     let lists = step.1.listed in
     All-permutation (λ (shown : List Tree). ¬ Contains shown t) lists.lists listing lists.same
-    (none_shown (shows_atom old.texts) old.names t step.1.sets lists.lists (λ k d within. not_in old t assume (get_or step.1.sets k d) gone (step.1.true_ones.each k d within)) lists.shown)
+    (none_shown (shows_atom s.texts) s.names t step.1.sets lists.lists (λ k d within. lacks assume (get_or step.1.sets k d) (step.1.true_ones.each k d within)) lists.shown)
+listed_without s new t (Add text) (solved ending count most listing) lacks step = absurd step
+listed_without s new t (Ground calls) (solved ending count most listing) lacks step = absurd step
+listed_without s new t (Assign atom truth) (solved ending count most listing) lacks step = absurd step
+listed_without s new t (Release atom) (solved ending count most listing) lacks step = absurd step
+listed_without s new t command (added count) lacks step = All-nil (λ (shown : List Tree). ¬ Contains shown t)
+listed_without s new t command (grounded atoms count) lacks step = All-nil (λ (shown : List Tree). ¬ Contains shown t)
+listed_without s new t command assigned lacks step = All-nil (λ (shown : List Tree). ¬ Contains shown t)
+listed_without s new t command released lacks step = All-nil (λ (shown : List Tree). ¬ Contains shown t)
+listed_without s new t command no_effect lacks step = All-nil (λ (shown : List Tree). ¬ Contains shown t)
+listed_without s new t command (refused refusal) lacks step = All-nil (λ (shown : List Tree). ¬ Contains shown t)
+
+pub never_listed : (atom : Value) (old new : State) (command : Command) (reply : Reply) → WasReleased atom old → Answers old command reply new
+    → All (λ shown. ¬ Contains shown (tree_of_value atom)) (listing_of reply)
+never_listed atom old new command reply was step =
+    listed_without old new (tree_of_value atom) command reply (λ assume set. not_in old (tree_of_value atom) assume set (lost atom old was)) step
 
 -- ---- groundings and inputs
 
-pub never_defined : (atom : Value) (old new : State) (calls : List Call) (atoms count : ℕ) → WasReleased atom old → Step old (Ground calls) (grounded atoms count) new
+pub never_defined : (atom : Value) (old new : State) (calls : List Call) (atoms count : ℕ) → WasReleased atom old → Answers old (Ground calls) (grounded atoms count) new
     → ¬ IsHead (core_of_calls old.texts calls) (tree_of_value atom)
 never_defined atom old new calls atoms count was joins head =
     let t : Tree = tree_of_value atom in

@@ -8,7 +8,7 @@ use Rattle.ms_join.specs.declared.ground_rule.GroundKind.{GroundKind}
 use Rattle.ms_join.specs.declared.ground_rule.GroundKind.TheVariants.{Normal, Choice, Constraint}
 use Rattle.ms_join.specs.declared.ground_rule.GroundRule.{GroundRule}
 use Rattle.ms_join.specs.declared.ground_rule.Input.{Input}
-use Rattle.ms_join.specs.AnswerSets.{has_all, has_none, IsAnswerSet, IsReductModel, Keeps, KeepsInput}
+use Rattle.ms_join.specs.AnswerSets.{has_all, side_holds, IsAnswerSet, IsReductModel, Keeps, KeepsInput}
 use Rattle.ms_join.specs.Modules.{Join, IsInput, rules_of}
 use Rattle.ms_released.specs.Released.{IsFalseForGood}
 
@@ -37,15 +37,15 @@ module _ (a : ℕ) (set : ℕ → Bool) where
   head_kept None no_rule holds = tt
   head_kept (Some h) no_rule holds = other h (λ same. no_rule (ap Some same)) holds
 
-  choice_kept : (head : Option ℕ) (pos neg : List ℕ) → head ≢ Some a
-      → IfSome head (λ h. IsTrue (set h) → IsTrue (has_none set neg) → IsTrue (has_all set pos) → IsTrue (set h))
-      → IfSome head (λ h. IsTrue (set h) → IsTrue (has_none set neg) → IsTrue (has_all (without a set) pos) → IsTrue (without a set h))
-  choice_kept None pos neg no_rule keeps = tt
-  choice_kept (Some h) pos neg no_rule keeps = λ chosen none all. other h (λ same. no_rule (ap Some same)) chosen
+  choice_kept : (head : Option ℕ) (pos : List ℕ) (side : Bool) → head ≢ Some a
+      → IfSome head (λ h. IsTrue (set h) → IsTrue side → IsTrue (has_all set pos) → IsTrue (set h))
+      → IfSome head (λ h. IsTrue (set h) → IsTrue side → IsTrue (has_all (without a set) pos) → IsTrue (without a set h))
+  choice_kept None pos side no_rule keeps = tt
+  choice_kept (Some h) pos side no_rule keeps = λ chosen none all. other h (λ same. no_rule (ap Some same)) chosen
 
   rule_kept : (kind : GroundKind) (rule : GroundRule) → rule.head ≢ Some a → Keeps set set kind rule → Keeps set (without a set) kind rule
   rule_kept Normal rule no_rule keeps = λ none all. head_kept rule.head no_rule (keeps none (all_fewer rule.pos all))
-  rule_kept Choice rule no_rule keeps = choice_kept rule.head rule.pos rule.neg no_rule keeps
+  rule_kept Choice rule no_rule keeps = choice_kept rule.head rule.pos (side_holds set rule) no_rule keeps
   rule_kept Constraint rule no_rule keeps = tt
 
   input_kept : (b : ℕ) (value : Option Bool) → (b ≡ a → ⊥) → KeepsInput set set b value → KeepsInput set (without a set) b value

@@ -18,9 +18,9 @@ use Rattle.ms_join.specs.Modules.{Join, IsInput, IsJoined, IsOutput}
 use Rattle.ms_copies.specs.Evaluating.{Chosen}
 use Rattle.ms_copies.specs.Grounding.{gives_head, head_under, IsHead}
 use Rattle.ms_copies.specs.Simplifying.{ground_kind, IsModule, IsNumbered}
-use Rattle.ms_machine.specs.Grounding.{core_of_calls}
+use Rattle.ms_solving.specs.Grounding.{core_of_calls}
 use Rattle.ms_machine.specs.Machine.{State, Joins}
-use Rattle.ms_machine.specs.Replies.{Reply}
+use Rattle.ms_machine.specs.Replies.{Output}
 use Rattle.ms_machine.specs.Scripts.{Run}
 use Rattle.ms_released.specs.Released.{IsFalseForGood}
 use Rattle.ms_released.proofs.CoreHeads.{HasHeadByKind, calls_headed}
@@ -138,13 +138,13 @@ pub name_stays : (old new : State) → Stays old new ⊎ Grows old new → (a : 
 name_stays old new (inl stays) a t at = subst (λ names. slice_get names a ≡ Some t) (sym stays.names) at
 name_stays old new (inr grows) a t at = subst (λ names. slice_get names a ≡ Some t) (sym grows.joins.longer) (at_front old.names grows.joins.names a t at)
 
-pub stays_false : (old new : State) (items : List Item) (replies : List Reply) (a : ℕ) → IsFalseForGood old.join a → Run old items replies new
+pub stays_false : (old new : State) (items : List Item) (outputs : List Output) (a : ℕ) → IsFalseForGood old.join a → Run old items outputs new
     → IsFalseForGood new.join a × ((t : Tree) → slice_get old.names a ≡ Some t → slice_get new.names a ≡ Some t)
 unfolding Run
 stays_false old new [] [] a lies run = (subst (λ (s : State). IsFalseForGood s.join a) (sym run) lies, λ t at. subst (λ (s : State). slice_get s.names a ≡ Some t) (sym run) at)
-stays_false old new (item ∷ items) (reply ∷ replies) a lies (mid, takes, run) =
-    let change = takes_changes old item reply mid takes in
-    let rest = stays_false mid new items replies a (either_way old mid change a lies) run in
+stays_false old new (item ∷ items) (output ∷ outputs) a lies (mid, takes, run) =
+    let change = takes_changes old item output mid takes in
+    let rest = stays_false mid new items outputs a (either_way old mid change a lies) run in
     (rest.0, λ t at. rest.1 t (name_stays old mid change a t at))
-stays_false old new [] (reply ∷ replies) a lies run = absurd run
+stays_false old new [] (output ∷ outputs) a lies run = absurd run
 stays_false old new (item ∷ items) [] a lies run = absurd run

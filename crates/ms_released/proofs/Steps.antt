@@ -7,9 +7,9 @@ use Rattle.ms_call.specs.declared.command.Command.{Command}
 use Rattle.ms_call.specs.declared.command.Command.TheVariants.{Add, Ground, Assign, Release, Solve}
 use Rattle.ms_join.specs.declared.ground_rule.Input.{Input}
 use Rattle.ms_join.specs.Modules.{Join, IsInput}
-use Rattle.ms_machine.specs.declared.reply.Refusal.TheVariants.{Syntax, Const, Later, TooLarge, TooMany, Redefined, CrossLoop, Small}
-use Rattle.ms_machine.specs.Machine.{State, Joins, Step}
-use Rattle.ms_machine.specs.Replies.{Reply, added, grounded, assigned, released, no_effect, solved, refused}
+use Rattle.ms_machine.specs.declared.reply.Refusal.TheVariants.{Syntax, Const, Later, TooLarge, TooMany, Redefined, CrossLoop, RecursiveAggregate, Small}
+use Rattle.ms_machine.specs.Machine.{State, Joins, Answers}
+use Rattle.ms_machine.specs.Replies.{Output, Reply, added, grounded, assigned, released, no_effect, solved, refused}
 use Rattle.ms_machine.specs.Scripts.{Takes}
 use Rattle.ms_released.proofs.Sets.{input_from}
 
@@ -38,7 +38,7 @@ same_join old new names join = record {
 pub same : (old new : State) → new ≡ old → Stays old new ⊎ Grows old new
 same old new is = inl (same_join old new (ap (λ (s : State). s.names) is) (ap (λ (s : State). s.join) is))
 
-pub changes : (old : State) (c : Command) (reply : Reply) (new : State) → Step old c reply new → Stays old new ⊎ Grows old new
+pub changes : (old : State) (c : Command) (reply : Reply) (new : State) → Answers old c reply new → Stays old new ⊎ Grows old new
 changes old (Add text) (added count) new h = inl (same_join old new (ap (λ (s : State). s.names) h.4) (ap (λ (s : State). s.join) h.4))
 changes old (Add text) (refused (Syntax line)) new h = same old new h.1
 changes old (Add text) (refused (Const line)) new h = same old new h.3
@@ -48,6 +48,7 @@ changes old (Ground calls) (refused TooLarge) new h = same old new h.2
 changes old (Ground calls) (refused TooMany) new h = same old new h.1
 changes old (Ground calls) (refused (Redefined atom)) new h = same old new h.1
 changes old (Ground calls) (refused (CrossLoop new_head other)) new h = same old new h.1
+changes old (Ground calls) (refused (RecursiveAggregate atom)) new h = same old new h.1
 changes old (Assign atom truth) assigned new ((a, named, is), texts, names) = inl (record {
   names = names;
   atoms = is.atoms;
@@ -65,11 +66,11 @@ changes old (Release atom) released new ((a, named, is), texts, names) = inl (re
   inputs = λ i has. input_from old.join i ((is.inputs i).0 has).0;
 })
 changes old (Release atom) no_effect new h = same old new h.1
-changes old (Solve asked limit assume) (solved ending count most listing) new h = same old new h.3
+changes old (Solve asked limit assume) (solved ending count most listing) new h = same old new h.4
 changes old (Solve asked limit assume) (refused Small) new h = same old new h.1
 changes old c reply new h = absurd h
 
 -- the same of an item of a script
-pub takes_changes : (old : State) (item : Item) (reply : Reply) (new : State) → Takes old item reply new → Stays old new ⊎ Grows old new
-takes_changes old (command c) reply new h = changes old c reply new h
-takes_changes old bad_line reply new h = same old new h.1
+pub takes_changes : (old : State) (item : Item) (output : Output) (new : State) → Takes old item output new → Stays old new ⊎ Grows old new
+takes_changes old (command c) output new h = changes old c output.reply new h.answers
+takes_changes old bad_line output new h = same old new h.1

@@ -7,8 +7,8 @@ use Rattle.ms_grammar.specs.declared.value.Value.{Value}
 use Rattle.ms_call.specs.declared.command.Command.TheVariants.{Release}
 use Rattle.ms_call.specs.Items.{Item}
 use Rattle.ms_join.specs.Modules.{Join, IsOutput}
-use Rattle.ms_machine.specs.Machine.{State, start, Step}
-use Rattle.ms_machine.specs.Replies.{Reply, released}
+use Rattle.ms_machine.specs.Machine.{State, start, Answers}
+use Rattle.ms_machine.specs.Replies.{Output, released}
 use Rattle.ms_machine.specs.Scripts.{Run}
 
 -- The atom is an output of the join, and no rule has it as its head.
@@ -21,18 +21,18 @@ pub record IsTheOne (names : List Tree) (t : Tree) (a : ℕ) : Type 0 where
   pub named : slice_get names a ≡ Some t
   pub only : (b : ℕ) → slice_get names b ≡ Some t → b ≡ a
 
--- Some items and replies lead to this state.
+-- Some items and outputs lead to this state.
 pub record IsReached (s : State) : Type 0 where
   pub items : List Item
-  pub replies : List Reply
-  pub run : Run start items replies s
+  pub outputs : List Output
+  pub run : Run start items outputs s
 
 -- On the way to this state the atom's release was answered `released`.
 pub record WasReleased (atom : Value) (s : State) : Type 0 where
   pub before : State
   pub after : State
   pub items : List Item
-  pub replies : List Reply
+  pub outputs : List Output
   pub reached : IsReached before
-  pub release : Step before (Release atom) released after
-  pub since : Run after items replies s
+  pub release : Answers before (Release atom) released after
+  pub since : Run after items outputs s

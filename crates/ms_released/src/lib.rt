@@ -29,7 +29,7 @@ pub fn released_is_in_no_answer()
     ensures { ReleasedIsInNoAnswer }
 {}
 
-/// No later solve lists a released atom.
+/// No later reply lists a released atom.
 pub fn released_is_never_listed()
     ensures { ReleasedIsNeverListed }
 {}

@@ -9,12 +9,12 @@ mod scratch;
 pub use answer_test::is_answer;
 pub use ms_base::atom_id::AtomId;
 pub use ms_base::memory::OutOfMemory;
+pub use ms_base::truth::{Effect, Truth};
 pub use ms_join::ground_module::{GroundModule, TermIds};
 pub use ms_join::ground_rule::{
     AtomIds, GroundKind, GroundRule, GroundRules, Input, Inputs, Rules,
 };
 pub use ms_join::join_fault::JoinFault;
-pub use ms_base::truth::{Effect, Truth};
 pub use scratch::Scratch;
 
 /// A set of atoms: their numbers in rising order.

@@ -13,9 +13,8 @@ use Rattle.std.proofs.lemmas.Option.{get_or_from_slice_get, slice_get_within}
 use Rattle.ms_tree.specs.Tree.{Tree}
 use Rattle.ms_call.specs.declared.command.Assumption.{Assumption}
 use Rattle.ms_call.specs.declared.command.Command.TheVariants.{Solve}
-use Rattle.ms_value.specs.Naming.{Keeps}
-use Rattle.ms_answers.specs.declared.meeting.AtomLit.{AtomLit}
-use Rattle.ms_answers.specs.Meeting.{IsMeetingAnswer}
+use Rattle.ms_join.specs.declared.assumption.AtomLit.{AtomLit}
+use Rattle.ms_join.specs.Assumptions.{IsMeetingAnswer}
 use Rattle.ms_core.specs.Texts.{Texts}
 use Rattle.ms_lits.specs.declared.note.Ending.{Ending}
 use Rattle.ms_lits.specs.declared.note.Ending.TheVariants.{Complete, StillOpen, Cut}
@@ -25,10 +24,10 @@ use Rattle.ms_term.specs.Terms.{term_at}
 use Rattle.ms_machine.specs.declared.reply.Reply.{Reply}
 use Rattle.ms_machine.specs.declared.reply.Reply.TheVariants.{Added, Grounded, Assigned, Released, NoEffect, Solved, Refused}
 use Rattle.ms_machine.specs.Replies.{said_by}
-use Rattle.ms_machine.specs.Machine.{Step, shows_atom}
-use Rattle.ms_machine.specs.Listing.{Meets, HasAtom, IsAnswer, EndsAs, Solves, tree_of_value}
+use Rattle.ms_machine.specs.Machine.{Answers}
+use Rattle.ms_solving.specs.Showing.{shows_atom}
+use Rattle.ms_solving.specs.Listing.{Meets, HasAtom, IsAnswer, EndsAs, Solves, tree_of_value}
 use Rattle.ms_session.specs.Kept.{IsAtomOf, IsSound, state_by}
-use Rattle.ms_session.proofs.Keeping.{names_kept, state_kept}
 use Rattle.ms_session.specs.Assuming.{MeetSame, NoneMeets, ListsAs}
 
 -- a set has the atom exactly where it has its number
@@ -128,7 +127,7 @@ from_numbers names n join assume lits set size same h = record {
 pub ends_too : (Is Other : List ℕ → Type 0) (ending : Ending) (asked : ℕ) (sets : List (List ℕ)) → ((set : List ℕ) → Other set → Is set) → EndsAs ending asked Is sets → EndsAs ending asked Other sets
 ends_too Is Other Complete asked sets to h = (h.0, λ set other. h.1 set (to set other))
 ends_too Is Other StillOpen asked sets to h = h
-ends_too Is Other Cut asked sets to h = elim h [ ]
+ends_too Is Other Cut asked sets to h = h
 
 -- what is listed by numbers is what the machine lists
 pub solves : (table : List Tree) (texts : Texts) (base : List ℕ) (join : Join) (assume : List Assumption) (lits : List AtomLit) (asked limit : ℕ) (ending : Ending) (count most : ℕ) (shown : List (List ℕ))
@@ -142,7 +141,7 @@ solves table texts base join assume lits asked limit ending count most shown siz
       true_ones = record { each = All-weaker under (IsAnswer names join assume) (λ set is. from_numbers names (length base) join assume lits set size same is) h.0 h.1.each; once = h.1.once };
       ends = ends_too under (IsAnswer names join assume) ending asked h.0 (λ set is. to_numbers names (length base) join assume lits set size same is) h.2;
       counted = h.3;
-      listed = h.5;
+      listed = h.6;
     }
 
 -- where no set meets the assumptions, none is listed
@@ -157,32 +156,27 @@ solves_none shows names join assume asked some none = record {
 }
 
 -- what is listed by numbers is a step of the machine
-pub lists_step : (texts : Texts) (old new : List Tree) (base : List ℕ) (join : Join) (assume : List Assumption) (lits : List AtomLit) (asked limit : ℕ) (reply : Reply)
-    → length base ≤ 20 → IsSound old base join → Keeps old new → MeetSame (map (term_at old) base) assume lits → ListsAs new texts base join lits asked limit reply
-    → Step (state_by old texts base join) (Solve asked limit assume) (said_by new reply) (state_by new texts base join)
-lists_step texts old new base join assume lits asked limit (Solved ending count most shown) few s k same h =
-    let names = names_kept old new base k s.named in (
-      omega (arith, length-map base (term_at old)),
-      subst (λ (ts : List Tree). Solves (shows_atom texts) ts join assume asked ending count (map (map (term_at new)) shown)) names
-          (solves new texts base join assume lits asked limit ending count most shown s.counted (subst (λ (ts : List Tree). MeetSame ts assume lits) (sym names) same) h),
-      h.4,
-      state_kept old new texts base join k s.named,
-    )
-lists_step texts old new base join assume lits asked limit (Added count) few s k same h = elim h [ ]
-lists_step texts old new base join assume lits asked limit (Grounded atoms rules) few s k same h = elim h [ ]
-lists_step texts old new base join assume lits asked limit Assigned few s k same h = elim h [ ]
-lists_step texts old new base join assume lits asked limit Released few s k same h = elim h [ ]
-lists_step texts old new base join assume lits asked limit NoEffect few s k same h = elim h [ ]
-lists_step texts old new base join assume lits asked limit (Refused refusal) few s k same h = elim h [ ]
+pub lists_step : (table : List Tree) (texts : Texts) (base : List ℕ) (join : Join) (assume : List Assumption) (lits : List AtomLit) (asked limit : ℕ) (reply : Reply)
+    → length base ≤ 20 → IsSound table base join → MeetSame (map (term_at table) base) assume lits → ListsAs table texts base join lits asked limit reply
+    → Answers (state_by table texts base join) (Solve asked limit assume) (said_by table reply) (state_by table texts base join)
+lists_step table texts base join assume lits asked limit (Solved ending count most shown) few s same h =
+    (omega (arith, length-map base (term_at table)), solves table texts base join assume lits asked limit ending count most shown s.counted same h, h.4, h.5, refl)
+lists_step table texts base join assume lits asked limit (Added count) few s same h = elim h [ ]
+lists_step table texts base join assume lits asked limit (Grounded atoms rules) few s same h = elim h [ ]
+lists_step table texts base join assume lits asked limit Assigned few s same h = elim h [ ]
+lists_step table texts base join assume lits asked limit Released few s same h = elim h [ ]
+lists_step table texts base join assume lits asked limit NoEffect few s same h = elim h [ ]
+lists_step table texts base join assume lits asked limit (Refused refusal) few s same h = elim h [ ]
 
 -- so is that nothing is listed
-pub none_step : (texts : Texts) (old new : List Tree) (base : List ℕ) (join : Join) (assume : List Assumption) (asked limit : ℕ) (shown : List (List ℕ))
-    → length base ≤ 20 → 1 ≤ asked → IsSound old base join → Keeps old new → NoneMeets (map (term_at old) base) assume → shown ≡ []
-    → Step (state_by old texts base join) (Solve asked limit assume) (said_by new (Solved Complete 0 limit shown)) (state_by new texts base join)
-none_step texts old new base join assume asked limit shown few some s k none is = (
-  omega (arith, length-map base (term_at old)),
-  subst (λ (list : List (List ℕ)). Solves (shows_atom texts) (map (term_at old) base) join assume asked Complete 0 (map (map (term_at new)) list)) (sym is)
-      (solves_none (shows_atom texts) (map (term_at old) base) join assume asked some none),
+pub none_step : (table : List Tree) (texts : Texts) (base : List ℕ) (join : Join) (assume : List Assumption) (asked limit : ℕ) (shown : List (List ℕ))
+    → length base ≤ 20 → 1 ≤ asked → NoneMeets (map (term_at table) base) assume → shown ≡ []
+    → Answers (state_by table texts base join) (Solve asked limit assume) (said_by table (Solved Complete 0 limit shown)) (state_by table texts base join)
+none_step table texts base join assume asked limit shown few some none is = (
+  omega (arith, length-map base (term_at table)),
+  subst (λ (list : List (List ℕ)). Solves (shows_atom texts) (map (term_at table) base) join assume asked Complete 0 (map (map (term_at table)) list)) (sym is)
+      (solves_none (shows_atom texts) (map (term_at table) base) join assume asked some none),
   refl,
-  state_kept old new texts base join k s.named,
+  λ cut. cc,
+  refl,
 )

@@ -1,12 +1,11 @@
 -- What stays where a table keeps its names.
-use Rattle.std.proofs.Common.{◌≡◌, ℕ, ◌<◌, ◌≤◌, List, [], ◌∷◌, map, length, get_or, All, refl, sym, ap, subst, ◌∙◌, arith}
+use Rattle.std.proofs.Common.{◌≡◌, ℕ, ◌<◌, ◌≤◌, List, [], ◌∷◌, map, length, take, pos, All, refl, sym, ap, subst, ◌∙◌, arith}
 use Rattle.std.proofs.lemmas.List.Elements.{All-head, All-tail, All-weaker}
-use Rattle.ms_tree.specs.Tree.{Tree}
-use Rattle.ms_tree.specs.Size.{tree_size}
+use Rattle.std.proofs.lemmas.List.{ext_get_or, get_or-take, length-take-le}
+use Rattle.ms_tree.specs.Tree.{Tree, number}
 use Rattle.ms_term.specs.Terms.{term_at}
 use Rattle.ms_core.specs.Texts.{Texts}
 use Rattle.ms_join.specs.Modules.{Join}
-use Rattle.ms_copies.specs.Limits.{most_symbols}
 use Rattle.ms_value.specs.Naming.{Keeps}
 use Rattle.ms_machine.specs.Machine.{State}
 use Rattle.ms_session.specs.Kept.{IsSound, state_by}
@@ -25,15 +24,23 @@ named_kept old new base k h =
 pub sound_kept : (old new : List Tree) (base : List ℕ) (join : Join) → Keeps old new → IsSound old base join → IsSound new base join
 sound_kept old new base join k s = record {
   named = named_kept old new base k s.named;
-  small = λ i d h. subst (λ (u : Tree). tree_size u ≤ most_symbols) (sym (k.kept (get_or base i d) (s.named i d h))) (s.small i d h);
   counted = s.counted;
   few = s.few;
 }
 
 state_with : Texts → Join → List Tree → State
-state_with texts join names = record { texts = texts; names = names; join = join }
+state_with texts join names = record { texts = texts; names = names; join = join; things = []; kept = [] }
 
 pub state_kept : (old new : List Tree) (texts : Texts) (base : List ℕ) (join : Join) → Keeps old new → All (λ t. t < length old) base
     → state_by new texts base join ≡ state_by old texts base join
 unfolding state_with
 state_kept old new texts base join k h = ap (state_with texts join) (names_kept old new base k h)
+
+-- the table up to where it was
+pub table_back : (old new : List Tree) → Keeps old new → take (length old) new ≡ old
+table_back old new k =
+    let longer : length old ≤ length new = k.longer in
+    let long : length (take (length old) new) ≡ length old = length-take-le (length old) new longer in
+    ext_get_or (number (pos 0)) (take (length old) new) old long (λ i within.
+    let below : i < length old = omega (arith, within, long) in
+    get_or-take (length old) new i (number (pos 0)) below ∙ k.kept i below)

@@ -5,4 +5,3 @@ mod Assumed
 mod Refusing
 mod Stepping
 mod Sealing
-mod Found

@@ -1,11 +1,11 @@
 -- Terms side by side, the first of which have been named.
-use Rattle.std.proofs.Common.{◌≡◌, ℕ, ◌+◌, ◌<◌, ◌≤◌, List, [], ◌∷◌, ◌++◌, map, length, drop, get_or, refl, sym, ap, ◌∙◌, arith, suc, drop-cons}
+use Rattle.std.proofs.Common.{◌≡◌, ℕ, ◌+◌, ◌<◌, ◌≤◌, List, [], ◌∷◌, ◌++◌, map, length, drop, get_or, inl, inr, refl, sym, ap, subst, ◌∙◌, arith, zero, suc, drop-cons}
 use Rattle.std.proofs.Math.ListN.{drop_of_length-le}
-use Rattle.ms_tree.specs.Tree.{Tree, Trees, no_tree, tree}
-use Rattle.ms_term.specs.Terms.{term_at, terms_at, AllBelow}
+use Rattle.ms_tree.specs.Tree.{Tree, Trees, no_tree, tree, function}
+use Rattle.ms_term.specs.Terms.{term_at, terms_at, AreWhole, HasEach, HasNo}
 use Rattle.ms_grammar.specs.declared.value.Value.{Value}
-use Rattle.ms_value.specs.Naming.{Keeps}
-use Rattle.ms_machine.specs.Listing.{row, tree_of_value}
+use Rattle.ms_solving.specs.Listing.{row, tree_of_value}
+use Rattle.ms_session.specs.Naming.{LacksOne}
 
 -- the terms of names, and then others
 abbrev pub before : List Tree → List ℕ → Trees → Trees
@@ -15,11 +15,6 @@ before ts (i ∷ is) rest = tree (term_at ts i) (before ts is rest)
 before_none : (ts : List Tree) (is : List ℕ) → before ts is no_tree ≡ terms_at ts is
 before_none ts [] = refl
 before_none ts (i ∷ is) = ap (tree (term_at ts i)) (before_none ts is)
-
-before_kept : (old new : List Tree) (is : List ℕ) (rest : Trees) → Keeps old new → AllBelow (length old) is → before new is rest ≡ before old is rest
-before_kept old new [] rest k h = refl
-before_kept old new (i ∷ is) rest k h =
-    ap (λ t. tree t (before new is rest)) (k.kept i h.0) ∙ ap (tree (term_at old i)) (before_kept old new is rest k h.1)
 
 before_push : (ts : List Tree) (is : List ℕ) (i : ℕ) (rest : Trees) → before ts (is ++ i ∷ []) rest ≡ before ts is (tree (term_at ts i) rest)
 before_push ts [] i rest = refl
@@ -38,15 +33,31 @@ next_term : (vs : List Value) (i : ℕ) (v : Value) → i < length vs → v ≡ 
 unfolding row
 next_term vs i v h e = ap (λ us. row (map tree_of_value us)) (cut vs i v h e)
 
-pub one_more_named : (old new : List Tree) (names : List ℕ) (name : ℕ) (vs : List Value) (i : ℕ) (v : Value)
-    → i < length vs → v ≡ get_or vs i v → Keeps old new → AllBelow (length old) names → term_at new name ≡ tree_of_value v
-    → before new (names ++ name ∷ []) (row_from vs (i + 1)) ≡ before old names (row_from vs i)
-one_more_named old new names name vs i v h e keeps below is =
+pub one_more_named : (ts : List Tree) (names : List ℕ) (name : ℕ) (vs : List Value) (i : ℕ) (v : Value)
+    → i < length vs → v ≡ get_or vs i v → term_at ts name ≡ tree_of_value v
+    → before ts (names ++ name ∷ []) (row_from vs (i + 1)) ≡ before ts names (row_from vs i)
+one_more_named ts names name vs i v h e is =
     let rest = row_from vs (i + 1) in
-    before_push new names name rest
-    ∙ ap (λ t. before new names (tree t rest)) is
-    ∙ ap (before new names) (sym (next_term vs i v h e))
-    ∙ before_kept old new names (row_from vs i) keeps below
+    before_push ts names name rest
+    ∙ ap (λ t. before ts names (tree t rest)) is
+    ∙ ap (before ts names) (sym (next_term vs i v h e))
+
+-- the table lacks one of the terms where it lacks that of one of the values
+pub lacks_row : (ts : List Tree) (vs : List Value) (i : ℕ) (v : Value) → i < length vs → v ≡ get_or vs i v → HasNo ts (tree_of_value v) → LacksOne ts (row (map tree_of_value vs))
+unfolding row
+lacks_row ts [] i v h e lacks = absurd (omega arith)
+lacks_row ts (first ∷ vs) zero v h e lacks = inl (subst (λ (x : Value). HasNo ts (tree_of_value x)) e lacks)
+lacks_row ts (first ∷ vs) (suc i) v h e lacks = inr (lacks_row ts vs i v (omega arith) e lacks)
+
+-- a table that has each of some terms lacks none of them
+clash : (ts : List Tree) (args : Trees) → HasEach ts args → LacksOne ts args → ⊥
+clash ts no_tree has lacks = lacks
+clash ts (tree t rest) has (inl none) = has.0 none
+clash ts (tree t rest) has (inr later) = clash ts rest has.1 later
+
+-- a table that has the arguments of its functions has no function with an argument that it lacks
+pub no_function : (ts : List Tree) (f : List ℕ) (args : Trees) → AreWhole ts → LacksOne ts args → HasNo ts (function f args)
+no_function ts f args whole lacks i within is = clash ts args (whole i f args within is) lacks
 
 pub all_named : (ts : List Tree) (names : List ℕ) (vs : List Value) (i : ℕ) (all : Trees)
     → length vs ≤ i → before ts names (row_from vs i) ≡ all → terms_at ts names ≡ all

@@ -2,6 +2,7 @@
 use Rattle.std.proofs.Common.{◌≡◌, ℕ, ◌+◌, ◌<◌, ◌≤◌, ◌++◌, List, [], map, take, length, All, refl, sym, ap, subst, ◌∙◌, arith}
 use Rattle.std.proofs.lemmas.List.{length-append, length-map, map-append}
 use Rattle.std.proofs.Math.Seq.{take-append_seam}
+use Rattle.ms_base.specs.Limits.{most_things}
 use Rattle.ms_tree.specs.Tree.{Tree}
 use Rattle.ms_term.specs.Terms.{term_at}
 use Rattle.ms_core.specs.declared.rule.CoreRule.{CoreRule}
@@ -15,14 +16,15 @@ use Rattle.ms_ctxground.specs.Grounds.{IsGround, IsLater, IsRefused as TooLargeF
 use Rattle.ms_machine.specs.declared.reply.Reply.{Reply}
 use Rattle.ms_machine.specs.declared.reply.Reply.TheVariants.{Added, Grounded, Assigned, Released, NoEffect, Solved, Refused}
 use Rattle.ms_machine.specs.declared.reply.Refusal.{Refusal}
-use Rattle.ms_machine.specs.declared.reply.Refusal.TheVariants.{Command, Unfinished, Syntax, Const, Later, TooLarge, TooMany, Redefined, CrossLoop, Small}
+use Rattle.ms_machine.specs.declared.reply.Refusal.TheVariants.{Command, Unfinished, Syntax, Const, Later, TooLarge, TooMany, Redefined, CrossLoop, RecursiveAggregate, Small}
 use Rattle.ms_copies.specs.Simplifying.{ArePlain}
-use Rattle.ms_machine.specs.Grounding.{core_of_calls, Grounds}
-use Rattle.ms_machine.specs.Machine.{Step}
+use Rattle.ms_solving.specs.Grounding.{core_of_calls, Grounds}
+use Rattle.ms_machine.specs.Machine.{Answers, State}
+use Rattle.ms_value.proofs.Tables.{keeps_same}
 use Rattle.ms_machine.specs.Replies.{refused, said_by}
 use Rattle.ms_session.specs.Kept.{IsSound, state_by}
-use Rattle.ms_session.specs.Joining.{IsGrownBase, JoinsAs, RefusesAs}
-use Rattle.ms_session.proofs.Keeping.{names_kept, state_kept, sound_kept}
+use Rattle.ms_session.specs.Joining.{IsGrownBase, JoinsAs, RefusesAs, StaysWhereRefused}
+use Rattle.ms_session.proofs.Keeping.{names_kept, state_kept, sound_kept, table_back}
 use Rattle.ms_session.proofs.Refusing.{few_atoms}
 
 -- the terms of the grown base
@@ -55,12 +57,14 @@ refused_as : (texts : Texts) (calls : List Call) (old new : List Tree) (base gro
     → All (λ t. t < length old) base → IsGround (core_of_calls texts calls) old new base grown m
     → RefusesAs (map (term_at old) base ++ map (term_at new) m.names) join m refusal
     → state_by new texts after next ≡ state_by old texts base join
-    → Step (state_by old texts base join) (Ground calls) (refused refusal) (state_by new texts after next)
+    → Answers (state_by old texts base join) (Ground calls) (refused refusal) (state_by new texts after next)
 refused_as texts calls old new base grown after join next m TooMany named g why same =
     (record { names = map (term_at new) m.names; ground_module = m; grounds = grounds (core_of_calls texts calls) old new base grown m g; why = why }, same)
 refused_as texts calls old new base grown after join next m (Redefined atom) named g why same =
     (record { names = map (term_at new) m.names; ground_module = m; grounds = grounds (core_of_calls texts calls) old new base grown m g; why = why }, same)
 refused_as texts calls old new base grown after join next m (CrossLoop new_head other) named g why same =
+    (record { names = map (term_at new) m.names; ground_module = m; grounds = grounds (core_of_calls texts calls) old new base grown m g; why = why }, same)
+refused_as texts calls old new base grown after join next m (RecursiveAggregate atom) named g why same =
     (record { names = map (term_at new) m.names; ground_module = m; grounds = grounds (core_of_calls texts calls) old new base grown m g; why = why }, same)
 refused_as texts calls old new base grown after join next m Command named g why same = elim why [ ]
 refused_as texts calls old new base grown after join next m Unfinished named g why same = elim why [ ]
@@ -73,7 +77,7 @@ refused_as texts calls old new base grown after join next m Small named g why sa
 pub module_steps : (texts : Texts) (calls : List Call) (old new : List Tree) (base grown after : List ℕ) (join next : Join) (m : GroundModule) (mark : ℕ) (reply : Reply)
     → IsSound old base join → mark ≡ length base → IsGround (core_of_calls texts calls) old new base grown m
     → JoinsAs new mark m grown join after next reply
-    → Step (state_by old texts base join) (Ground calls) (said_by new reply) (state_by new texts after next)
+    → Answers (state_by old texts base join) (Ground calls) (said_by new reply) (state_by new texts after next)
 module_steps texts calls old new base grown after join next m mark (Grounded atoms rules) s at g h = record {
   names = map (term_at new) m.names;
   ground_module = m;
@@ -103,13 +107,12 @@ pub module_sound : (rules : List CoreRule) (old new : List Tree) (base grown aft
 module_sound rules old new base grown after join next m mark (Grounded atoms count) s at g h =
     let same : after ≡ grown = h.3 in
     let atoms_are : next.atoms ≡ join.atoms + m.fresh = h.4.atoms in
-    let few : join.atoms + m.fresh ≤ 4000000 = few_atoms join m h.0 in
+    let few : join.atoms + m.fresh ≤ most_things = few_atoms join m h.0 in
     let counted : length base ≡ join.atoms = s.counted in
     let fresh : m.fresh ≡ length m.names = g.well_formed.fresh in
     let long : length grown ≡ length base + length m.names = ap length g.grown ∙ length-append base m.names in
     subst (λ (b : List ℕ). IsSound new b next) (sym same) (record {
       named = g.base.named;
-      small = g.base.small;
       counted = omega arith;
       few = omega arith;
     })
@@ -142,11 +145,46 @@ grown_base rules old new base grown join m mark s at g =
     }
 
 pub later_step : (texts : Texts) (calls : List Call) (old new : List Tree) (base after : List ℕ) (join : Join) → All (λ t. t < length old) base
-    → IsLater (core_of_calls texts calls) old new base after → Step (state_by old texts base join) (Ground calls) (refused Later) (state_by new texts after join)
+    → IsLater (core_of_calls texts calls) old new base after → Answers (state_by old texts base join) (Ground calls) (refused Later) (state_by new texts after join)
 later_step texts calls old new base after join named l =
     (not_plain (core_of_calls texts calls) l.aggregates, same_state old new texts base after join join l.keeps named l.same refl)
 
 pub large_step : (texts : Texts) (calls : List Call) (old new : List Tree) (base after : List ℕ) (join : Join) → All (λ t. t < length old) base
-    → TooLargeFor (core_of_calls texts calls) old new base after → Step (state_by old texts base join) (Ground calls) (refused TooLarge) (state_by new texts after join)
+    → TooLargeFor (core_of_calls texts calls) old new base after → Answers (state_by old texts base join) (Ground calls) (refused TooLarge) (state_by new texts after join)
 large_step texts calls old new base after join named r =
     (r.plain, r.large, same_state old new texts base after join join r.keeps named r.same refl)
+
+-- a refusal leaves the base and the join
+pub module_stays : (rules : List CoreRule) (old new : List Tree) (base grown after : List ℕ) (join next : Join) (m : GroundModule) (mark : ℕ) (reply : Reply)
+    → mark ≡ length base → IsGround rules old new base grown m → JoinsAs new mark m grown join after next reply → StaysWhereRefused base join after next reply
+module_stays rules old new base grown after join next m mark (Refused refusal) at g h =
+    (base_back rules old new base grown after m g (h.1 ∙ ap (λ k. take k grown) at), h.2)
+module_stays rules old new base grown after join next m mark (Grounded atoms count) at g h = tt
+module_stays rules old new base grown after join next m mark (Added count) at g h = elim h [ ]
+module_stays rules old new base grown after join next m mark Assigned at g h = elim h [ ]
+module_stays rules old new base grown after join next m mark Released at g h = elim h [ ]
+module_stays rules old new base grown after join next m mark NoEffect at g h = elim h [ ]
+module_stays rules old new base grown after join next m mark (Solved ending count limit shown) at g h = elim h [ ]
+
+pub keeps_table : (old cut : List Tree) → cut ≡ old → Keeps old cut
+keeps_table old cut is = subst (λ (ts : List Tree). Keeps old ts) (sym is) (keeps_same old)
+
+-- where nothing but the table changed, and the table goes back, nothing changed
+pub refusal_steps : (texts : Texts) (calls : List Call) (old new cut : List Tree) (base after : List ℕ) (join next : Join) (refusal : Refusal) → All (λ t. t < length old) base
+    → Keeps old new → cut ≡ take (length old) new → (after ≡ base) × (next ≡ join)
+    → Answers (state_by old texts base join) (Ground calls) (said_by new (Refused refusal)) (state_by new texts after next)
+    → Answers (state_by old texts base join) (Ground calls) (said_by cut (Refused refusal)) (state_by cut texts after next)
+refusal_steps texts calls old new cut base after join next refusal named k is stays h =
+    let back : cut ≡ old = is ∙ table_back old new k in
+    let state : state_by cut texts after next ≡ state_by new texts after next =
+    same_state old cut texts base after join next (keeps_table old cut back) named stays.0 stays.1
+    ∙ sym (same_state old new texts base after join next k named stays.0 stays.1) in
+    subst (λ (s : State). Answers (state_by old texts base join) (Ground calls) (refused refusal) s) (sym state) h
+
+pub refusal_sound : (old new cut : List Tree) (base after : List ℕ) (join next : Join) → IsSound old base join → Keeps old new → cut ≡ take (length old) new
+    → (after ≡ base) × (next ≡ join) → IsSound cut after next
+refusal_sound old new cut base after join next s k is stays =
+    let back : cut ≡ old = is ∙ table_back old new k in
+    subst (λ (b : List ℕ). IsSound cut b next) (sym stays.0)
+    (subst (λ (j : Join). IsSound cut base j) (sym stays.1)
+    (subst (λ (ts : List Tree). IsSound ts base join) (sym back) s))

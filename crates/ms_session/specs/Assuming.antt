@@ -1,16 +1,17 @@
 -- Assumptions by the numbers of their atoms.
-use Rattle.std.specs.Prelude.{ℕ, ◌≡◌, ◌↔◌, List, All, length, map}
+use Rattle.std.specs.Prelude.{ℕ, ◌≡◌, ◌≢◌, ◌↔◌, List, All, length, map}
 use Rattle.ms_tree.specs.Tree.{Tree}
 use Rattle.ms_term.specs.Terms.{term_at}
 use Rattle.ms_core.specs.Texts.{Texts}
 use Rattle.ms_call.specs.declared.command.Assumption.{Assumption}
 use Rattle.ms_join.specs.Modules.{Join, rules_of}
-use Rattle.ms_answers.specs.declared.meeting.AtomLit.{AtomLit}
-use Rattle.ms_answers.specs.Meeting.{MeetsEach, IsMeetingAnswer}
+use Rattle.ms_join.specs.declared.assumption.AtomLit.{AtomLit}
+use Rattle.ms_join.specs.Assumptions.{MeetsEach, IsMeetingAnswer}
+use Rattle.ms_lits.specs.declared.note.Ending.TheVariants.{Cut}
 use Rattle.ms_machine.specs.declared.reply.Reply.{Reply}
 use Rattle.ms_machine.specs.declared.reply.Reply.TheVariants.{Solved}
-use Rattle.ms_machine.specs.Listing.{Meets, AreAnswers, EndsAs, IsListing, tree_of_value}
-use Rattle.ms_machine.specs.Machine.{shows_atom}
+use Rattle.ms_solving.specs.Listing.{Meets, AreAnswers, EndsAs, IsListing, tree_of_value}
+use Rattle.ms_solving.specs.Showing.{shows_atom}
 
 -- the set meets each assumption
 abbrev pub AreMet : List Tree → List Assumption → List ℕ → Type 0
@@ -31,5 +32,6 @@ ListsAs table texts base join lits asked limit (Solved ending count most shown) 
     × EndsAs ending asked (IsMeetingAnswer (length base) (rules_of join) lits) sets
     × (count ≡ length sets)
     × (most ≡ limit)
+    × (ending ≢ Cut)
     × IsListing (shows_atom texts) (map (term_at table) base) sets (map (map (term_at table)) shown)
 ListsAs table texts base join lits asked limit reply = ⊥

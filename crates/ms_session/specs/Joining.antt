@@ -5,14 +5,14 @@ use Rattle.ms_tree.specs.Text.{tree_text}
 use Rattle.ms_term.specs.Terms.{term_at}
 use Rattle.ms_join.specs.declared.ground_module.GroundModule.{GroundModule}
 use Rattle.ms_join.specs.declared.join_fault.JoinFault.{JoinFault}
-use Rattle.ms_join.specs.declared.join_fault.JoinFault.TheVariants.{TooMany as too_many, Redefined as redefined, CrossLoop as cross_loop, OutOfMemory}
+use Rattle.ms_join.specs.declared.join_fault.JoinFault.TheVariants.{TooMany as too_many, Redefined as redefined, CrossLoop as cross_loop, RecursiveAggregate as recursive_aggregate, OutOfMemory}
 use Rattle.ms_join.specs.Modules.{Join, IsJoined, IsWellFormed}
 use Rattle.ms_join.specs.Composability.{name_of, IsComposable, IsTooMany}
 use Rattle.ms_machine.specs.declared.reply.Reply.{Reply}
 use Rattle.ms_machine.specs.declared.reply.Reply.TheVariants.{Grounded, Refused}
 use Rattle.ms_machine.specs.declared.reply.Refusal.{Refusal}
-use Rattle.ms_machine.specs.declared.reply.Refusal.TheVariants.{TooMany, Redefined, CrossLoop}
-use Rattle.ms_machine.specs.Machine.{RedefinesAs, LoopsAs}
+use Rattle.ms_machine.specs.declared.reply.Refusal.TheVariants.{TooMany, Redefined, CrossLoop, RecursiveAggregate}
+use Rattle.ms_machine.specs.Machine.{RedefinesAs, LoopsAs, RecursesAs}
 
 -- the base has the atoms of the join up to the mark, and then the new atoms of the module
 pub record IsGrownBase (table : List Tree) (mark : ℕ) (base : List ℕ) (join : Join) (m : GroundModule) : Type 0 where
@@ -26,6 +26,7 @@ abbrev pub AreAtomsOf : ℕ → JoinFault → Type 0
 AreAtomsOf n too_many = ⊤
 AreAtomsOf n (redefined a) = a < n
 AreAtomsOf n (cross_loop a b) = (a < n) × (b < n)
+AreAtomsOf n (recursive_aggregate a) = a < n
 AreAtomsOf n OutOfMemory = ⊤
 
 -- the refusal gives the atoms of the reason by their texts
@@ -33,6 +34,7 @@ abbrev pub IsRefusalOf : List Tree → JoinFault → Refusal → Type 0
 IsRefusalOf names too_many refusal = refusal ≡ TooMany
 IsRefusalOf names (redefined a) refusal = refusal ≡ Redefined (tree_text (name_of names a))
 IsRefusalOf names (cross_loop a b) refusal = refusal ≡ CrossLoop (tree_text (name_of names a)) (tree_text (name_of names b))
+IsRefusalOf names (recursive_aggregate a) refusal = refusal ≡ RecursiveAggregate (tree_text (name_of names a))
 IsRefusalOf names OutOfMemory refusal = ⊥
 
 -- the join can't take the module, for the reason that the refusal gives
@@ -40,6 +42,7 @@ abbrev pub RefusesAs : List Tree → Join → GroundModule → Refusal → Type 
 RefusesAs names join m TooMany = IsTooMany join m
 RefusesAs names join m (Redefined atom) = RedefinesAs join atom names m
 RefusesAs names join m (CrossLoop new_head other) = LoopsAs join new_head other names m
+RefusesAs names join m (RecursiveAggregate atom) = RecursesAs join atom names m
 RefusesAs names join m refusal = ⊥
 
 -- The join took the module, or it refused it and the base is as it was at the mark.
@@ -49,3 +52,8 @@ JoinsAs table mark m base join new_base new_join (Grounded atoms rules) =
 JoinsAs table mark m base join new_base new_join (Refused refusal) =
     RefusesAs (map (term_at table) base) join m refusal × (new_base ≡ take mark base) × (new_join ≡ join)
 JoinsAs table mark m base join new_base new_join reply = ⊥
+
+-- where the reply is a refusal, the base and the join are as before
+abbrev pub StaysWhereRefused : List ℕ → Join → List ℕ → Join → Reply → Type 0
+StaysWhereRefused base join new_base new_join (Refused refusal) = (new_base ≡ base) × (new_join ≡ join)
+StaysWhereRefused base join new_base new_join reply = ⊤

@@ -1,9 +1,8 @@
 -- What a session keeps, and what its calls do.
-use Rattle.std.specs.Prelude.{ℕ, ◌≡◌, ◌<◌, ◌≤◌, Bool, true, false, List, Option, Some, All, Contains, MatchOption, length, map, slice_get, ⊤}
+use Rattle.std.specs.Prelude.{ℕ, ◌≡◌, ◌<◌, ◌≤◌, Bool, true, false, List, [], Option, Some, All, Contains, MatchOption, length, map, slice_get, ⊤}
+use Rattle.ms_base.specs.Limits.{most_things}
 use Rattle.ms_tree.specs.Tree.{Tree}
-use Rattle.ms_tree.specs.Size.{tree_size}
-use Rattle.ms_term.specs.declared.node.Node.{Node}
-use Rattle.ms_term.specs.Terms.{trees, term_at}
+use Rattle.ms_term.specs.Terms.{term_at}
 use Rattle.ms_grammar.specs.declared.value.Value.{Value}
 use Rattle.ms_core.specs.Texts.{Texts, with_given}
 use Rattle.ms_call.specs.declared.command.Command.{Command}
@@ -11,41 +10,37 @@ use Rattle.ms_base.specs.declared.truth.Truth.{Truth}
 use Rattle.ms_base.specs.declared.truth.Effect.{Effect}
 use Rattle.ms_base.specs.declared.truth.Effect.TheVariants.{Done, NoEffect}
 use Rattle.ms_join.specs.Modules.{Join, IsInput, IsAssigned, IsReleased, value_of}
-use Rattle.ms_copies.specs.Limits.{most_symbols}
+use Rattle.ms_lits.specs.declared.note.Note.{Note}
 use Rattle.ms_value.specs.Naming.{Keeps}
 use Rattle.ms_machine.specs.declared.reply.Reply.{Reply as kept_reply}
 use Rattle.ms_machine.specs.declared.reply.Reply.TheVariants.{Solved}
 use Rattle.ms_machine.specs.Machine.{State, Step}
 use Rattle.ms_machine.specs.Replies.{said_by}
 
--- A session has met want of memory or hasn't. It keeps a table of terms, the accepted texts, the names of the atoms
--- of the base by their numbers, and the join.
+-- A session has met want of memory or hasn't. It keeps a table of terms by their names, the accepted texts, the names of
+-- the atoms of the base by their numbers, the join, and the lines of the log that the last command gave.
 pub record Kept : Type 0 where
   pub sealed : Bool
-  pub nodes : List Node
+  pub table : List Tree
   pub texts : Texts
   pub base : List ℕ
   pub join : Join
-
--- the terms by their names
-abbrev pub table_of : Kept → List Tree
-table_of k = trees k.nodes
+  pub notes : List Note
 
 -- the state of the machine, where these are the terms by their names
 abbrev pub state_by : List Tree → Texts → List ℕ → Join → State
-state_by table texts base join = record { texts = texts; names = map (term_at table) base; join = join }
+state_by table texts base join = record { texts = texts; names = map (term_at table) base; join = join; things = []; kept = [] }
 
 -- the state of the machine that the session stands for
 abbrev pub state_of : Kept → State
-state_of k = state_by (table_of k) k.texts k.base k.join
+state_of k = state_by k.table k.texts k.base k.join
 
--- What a session keeps true until it is sealed: each atom of the base has a name of the table and is no larger than
--- an atom may be, and the join has the atoms of the base.
+-- What a session keeps true until it is sealed: each atom of the base has a name of the table, and the join has the atoms
+-- of the base.
 pub record IsSound (table : List Tree) (base : List ℕ) (join : Join) : Type 0 where
   pub named : All (λ t. t < length table) base
-  pub small : All (λ t. tree_size (term_at table t) ≤ most_symbols) base
   pub counted : length base ≡ join.atoms
-  pub few : join.atoms ≤ 4000000
+  pub few : join.atoms ≤ most_things
 
 -- each name in the reply is one of a table of so many terms
 abbrev pub IsNamed : ℕ → kept_reply → Type 0
@@ -57,9 +52,9 @@ IsNamed size reply = ⊤
 pub record IsDone (old : Kept) (command : Command) (new : Kept) (reply : kept_reply) : Type 0 where
   pub was_open : old.sealed ≡ false
   pub is_open : new.sealed ≡ false
-  pub step : Step (state_of old) command (said_by (table_of new) reply) (state_of new)
-  pub named : IsNamed (length (table_of new)) reply
-  pub keeps : Keeps (table_of old) (table_of new)
+  pub step : Step (state_of old) command (record { reply = said_by new.table reply; log = new.notes }) (state_of new)
+  pub named : IsNamed (length new.table) reply
+  pub keeps : Keeps old.table new.table
 
 -- There was no memory for the call, or the session was sealed before, and then nothing changed.
 pub record IsSealed (old new : Kept) : Type 0 where
@@ -80,13 +75,10 @@ pub record IsAtomOf (names : List Tree) (t : Tree) (a : ℕ) : Type 0 where
 abbrev pub IsNumberOf : List Tree → Tree → Option ℕ → Type 0
 IsNumberOf names t number = MatchOption number (¬ Contains names t) (IsAtomOf names t)
 
--- The base has the atom with this term under this number, or none. The table may have grown, and nothing else changes.
--- What names meant before they mean still.
+-- The base has the atom with this term under this number, or none. Nothing changes.
 pub record IsFound (old : Kept) (t : Tree) (new : Kept) (number : Option ℕ) : Type 0 where
   pub was_open : old.sealed ≡ false
-  pub is_open : new.sealed ≡ false
-  pub state : state_of new ≡ state_of old
-  pub keeps : Keeps (table_of old) (table_of new)
+  pub same : new ≡ old
   pub found : IsNumberOf (state_of old).names t number
 
 -- The input has this truth from now on, and nothing else changes. Nothing at all does where the atom is no input.

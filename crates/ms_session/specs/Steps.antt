@@ -5,11 +5,11 @@ use Rattle.ms_core.specs.Texts.{Texts}
 use Rattle.ms_call.specs.declared.command.Command.{Command}
 use Rattle.ms_join.specs.Modules.{Join}
 use Rattle.ms_machine.specs.declared.reply.Reply.{Reply}
-use Rattle.ms_machine.specs.Machine.{Step}
+use Rattle.ms_machine.specs.Machine.{Answers}
 use Rattle.ms_machine.specs.Replies.{said_by}
 use Rattle.ms_session.specs.Kept.{state_by, IsNamed}
 
 -- The step changes the texts alone, and its reply has no atom, whatever the base and the join are.
 pub record StepsTexts (old : Texts) (command : Command) (new : Texts) (reply : Reply) : Type 0 where
-  pub step : (table : List Tree) (base : List ℕ) (join : Join) → Step (state_by table old base join) command (said_by table reply) (state_by table new base join)
+  pub step : (table : List Tree) (base : List ℕ) (join : Join) → Answers (state_by table old base join) command (said_by table reply) (state_by table new base join)
   pub named : (size : ℕ) → IsNamed size reply

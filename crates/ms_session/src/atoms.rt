@@ -1,13 +1,12 @@
 // Atoms of the base by their values, and their texts.
-ghost use Rattle.std.specs.Prelude.{◌≡◌, ◌<◌, All, IfOk, OnOk, length, map};
+ghost use Rattle.std.specs.Prelude.{◌≡◌, ◌<◌, All, IfOk, length, map};
 ghost use Rattle.ms_tree.specs.Text.{tree_text};
-ghost use Rattle.ms_term.specs.Terms.{trees, term_at};
-ghost use Rattle.ms_value.specs.Naming.{Keeps};
+ghost use Rattle.ms_term.specs.Terms.{term_at};
 ghost use Rattle.ms_join.specs.Composability.{name_of};
-ghost use Rattle.ms_machine.specs.Listing.{tree_of_value};
+ghost use Rattle.ms_solving.specs.Listing.{tree_of_value};
 ghost use Rattle.ms_session.specs.Kept.{IsNumberOf};
 
-use crate::value_term::term_of;
+use crate::value_term::find_term;
 use ms_atombase::AtomBase;
 use ms_base::atom_id::AtomId;
 use ms_base::memory::OutOfMemory;
@@ -16,20 +15,20 @@ use ms_grammar::value::Value;
 use ms_term::Terms;
 use std::alloc::Global;
 
-/// The number of the atom with a value's term, or none exactly where the base has no such atom.
+/// The number of the atom with a value's term, or none exactly where the base has no such atom. The table stays as it is.
 pub(crate) fn find_atom(
     alloc: Global,
-    terms: &mut Terms,
+    terms: &Terms,
     base: &AtomBase,
     atom: &Value,
 ) -> Result<Option<AtomId>, OutOfMemory>
-    requires { All (λ t. t < length (trees terms.old)) base.now }
-    ensures keeps { OnOk result (Keeps (trees terms.old) (trees terms.new)) }
-    ensures found { IfOk result
-        (IsNumberOf (map (term_at (trees terms.old)) base.now) (tree_of_value atom.now)) }
+    requires { All (λ t. t < length terms.now) base.now }
+    ensures { IfOk result (IsNumberOf (map (term_at terms.now) base.now) (tree_of_value atom.now)) }
 {
-    let term = term_of(alloc, terms, atom)?;
-    Ok(base.find(term))
+    match find_term(alloc, terms, atom)? {
+        Some(term) => Ok(base.find(term)),
+        None => Ok(None),
+    }
 }
 
 /// The text of an atom of the base.
@@ -39,9 +38,9 @@ pub(crate) fn atom_text(
     base: &AtomBase,
     a: AtomId,
 ) -> Result<Bytes, OutOfMemory>
-    requires named { All (λ t. t < length (trees terms.now)) base.now }
+    requires named { All (λ t. t < length terms.now) base.now }
     requires within { a < length base.now }
-    ensures { IfOk result (λ text. text ≡ tree_text (name_of (map (term_at (trees terms.now)) base.now) a)) }
+    ensures { IfOk result (λ text. text ≡ tree_text (name_of (map (term_at terms.now) base.now) a)) }
 {
     let mut text = Vec::new(alloc);
     terms.print(base.atom(a), &mut text)?;

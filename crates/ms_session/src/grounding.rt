@@ -1,12 +1,12 @@
 // Grounding calls and joining their module.
 ghost use Rattle.std.specs.Prelude.{◌≡◌, ◌<◌, ◌++◌, All, IfOk, OnOk, length, map};
-ghost use Rattle.ms_term.specs.Terms.{trees, term_at};
+ghost use Rattle.ms_term.specs.Terms.{term_at};
 ghost use Rattle.ms_value.specs.Naming.{Keeps};
 ghost use Rattle.ms_call.specs.declared.command.Command.TheVariants.{Ground};
-ghost use Rattle.ms_machine.specs.Machine.{Step};
+ghost use Rattle.ms_machine.specs.Machine.{Answers};
 ghost use Rattle.ms_machine.specs.Replies.{said_by};
 ghost use Rattle.ms_session.specs.Kept.{IsNamed, IsSound, state_by};
-ghost use Rattle.ms_session.specs.Joining.{AreAtomsOf, IsRefusalOf, IsGrownBase, JoinsAs};
+ghost use Rattle.ms_session.specs.Joining.{AreAtomsOf, IsRefusalOf, IsGrownBase, JoinsAs, StaysWhereRefused};
 
 use crate::atoms::atom_text;
 use ms_atombase::{AtomBase, Mark};
@@ -21,8 +21,8 @@ use ms_parts::Parts;
 use ms_term::Terms;
 use std::alloc::Global;
 
-/// Grounds the calls over the base, and joins their module or refuses it. Where it is refused the base and the join
-/// are as before.
+/// Grounds the calls over the base, and joins their module or refuses it. Where it is refused the table, the base and the
+/// join are as before.
 pub(crate) fn ground_calls(
     alloc: Global,
     parts: &Parts,
@@ -31,13 +31,39 @@ pub(crate) fn ground_calls(
     join: &mut Join,
     calls: &Calls,
 ) -> Result<Reply, OutOfMemory>
-    requires { IsSound (trees terms.old) base.old join.old }
-    ensures step { IfOk result (λ reply. Step (state_by (trees terms.old) parts.now base.old join.old)
-        (Ground calls.now) (said_by (trees terms.new) reply)
-        (state_by (trees terms.new) parts.now base.new join.new)) }
-    ensures sound { OnOk result (IsSound (trees terms.new) base.new join.new) }
-    ensures named { IfOk result (IsNamed (length (trees terms.new))) }
-    ensures keeps { OnOk result (Keeps (trees terms.old) (trees terms.new)) }
+    requires { IsSound terms.old base.old join.old }
+    ensures step { IfOk result (λ reply. Answers (state_by terms.old parts.now base.old join.old)
+        (Ground calls.now) (said_by terms.new reply)
+        (state_by terms.new parts.now base.new join.new)) }
+    ensures sound { OnOk result (IsSound terms.new base.new join.new) }
+    ensures named { IfOk result (IsNamed (length terms.new)) }
+    ensures keeps { OnOk result (Keeps terms.old terms.new) }
+{
+    let mark = terms.mark();
+    let reply = ground_and_join(alloc, parts, terms, base, join, calls)?;
+    if let Reply::Refused(_) = reply {
+        terms.back_to(mark);
+    }
+    Ok(reply)
+}
+
+/// The same, but where it is refused the table may have new terms.
+fn ground_and_join(
+    alloc: Global,
+    parts: &Parts,
+    terms: &mut Terms,
+    base: &mut AtomBase,
+    join: &mut Join,
+    calls: &Calls,
+) -> Result<Reply, OutOfMemory>
+    requires { IsSound terms.old base.old join.old }
+    ensures step { IfOk result (λ reply. Answers (state_by terms.old parts.now base.old join.old)
+        (Ground calls.now) (said_by terms.new reply)
+        (state_by terms.new parts.now base.new join.new)) }
+    ensures sound { OnOk result (IsSound terms.new base.new join.new) }
+    ensures named { IfOk result (IsNamed (length terms.new)) }
+    ensures keeps { OnOk result (Keeps terms.old terms.new) }
+    ensures back { IfOk result (StaysWhereRefused base.old join.old base.new join.new) }
 {
     let mark = base.mark();
     let ground_module = match ground(alloc, base, terms, parts, calls) {
@@ -46,7 +72,7 @@ pub(crate) fn ground_calls(
         Err(GroundFault::TooLarge) => return Ok(Reply::Refused(Refusal::TooLarge)),
         Err(GroundFault::OutOfMemory) => return Err(OutOfMemory),
     };
-    join_module(alloc, terms, base, mark, join, ground_module)
+    join_module(alloc, terms, base, mark, join, &ground_module)
 }
 
 /// Joins a module whose new atoms are in the base since the mark, or refuses it. Where it is refused the base goes
@@ -57,12 +83,12 @@ fn join_module(
     base: &mut AtomBase,
     mark: Mark,
     join: &mut Join,
-    ground_module: GroundModule,
+    ground_module: &GroundModule,
 ) -> Result<Reply, OutOfMemory>
-    requires { IsGrownBase (trees terms.now) mark base.old join.old ground_module }
-    ensures { IfOk result (JoinsAs (trees terms.now) mark ground_module base.old join.old base.new join.new) }
+    requires { IsGrownBase terms.now mark base.old join.old ground_module.now }
+    ensures { IfOk result (JoinsAs terms.now mark ground_module.now base.old join.old base.new join.new) }
 {
-    match join.check(alloc, terms, base, &ground_module) {
+    match join.check(alloc, terms, base, ground_module) {
         Ok(()) => {
             let atoms = ground_module.names.len() as u64;
             let rules = ground_module.rules.len() as u64;
@@ -84,9 +110,9 @@ fn refusal_of(
     base: &AtomBase,
     fault: JoinFault,
 ) -> Result<Refusal, OutOfMemory>
-    requires named { All (λ t. t < length (trees terms.now)) base.now }
+    requires named { All (λ t. t < length terms.now) base.now }
     requires within { AreAtomsOf (length base.now) fault }
-    ensures { IfOk result (IsRefusalOf (map (term_at (trees terms.now)) base.now) fault) }
+    ensures { IfOk result (IsRefusalOf (map (term_at terms.now) base.now) fault) }
 {
     match fault {
         JoinFault::TooMany => Ok(Refusal::TooMany),
@@ -98,6 +124,10 @@ fn refusal_of(
             let new_head = atom_text(alloc, terms, base, new_head)?;
             let old = atom_text(alloc, terms, base, old)?;
             Ok(Refusal::CrossLoop { new_head, old })
+        }
+        JoinFault::RecursiveAggregate { atom } => {
+            let atom = atom_text(alloc, terms, base, atom)?;
+            Ok(Refusal::RecursiveAggregate { atom })
         }
         JoinFault::OutOfMemory => Err(OutOfMemory),
     }

@@ -1,7 +1,6 @@
 // The texts of replies.
 ghost use Rattle.std.specs.Prelude.{◌≡◌, ◌++◌, ◌∷◌, ◌<◌, All, codes, OnOk, OnErr, length};
 ghost use Rattle.std.specs.Fmt.{decimal};
-ghost use Rattle.ms_term.specs.Terms.{trees};
 ghost use Rattle.ms_machine.specs.Replies.{ending_line, line, refusal_line, reply_text, said_by};
 ghost use Rattle.ms_machine.specs.declared.reply.Reply.TheVariants.{Solved};
 ghost use Rattle.ms_machine.specs.Replies.{grounded};
@@ -14,8 +13,8 @@ use ms_term::Terms;
 
 /// Appends the text of a reply whose names are in the table. Where there is no memory for it nothing was appended.
 pub(crate) fn print(terms: &Terms, reply: &Reply, into: &mut Vec<u8>) -> Result<(), OutOfMemory>
-    requires { IsNamed (length (trees terms.now)) reply.now }
-    ensures ok { OnOk result (into.new.items ≡ into.old.items ++ reply_text (said_by (trees terms.now) reply.now)) }
+    requires { IsNamed (length terms.now) reply.now }
+    ensures ok { OnOk result (into.new.items ≡ into.old.items ++ reply_text (said_by terms.now reply.now)) }
     ensures err { OnErr result (into.new.items ≡ into.old.items) }
 {
     match reply {
@@ -72,7 +71,10 @@ fn print_refusal(refusal: &Refusal, into: &mut Vec<u8>) -> Result<(), OutOfMemor
         Refusal::Later => put(b"refused later\n", into),
         Refusal::TooLarge => put(b"refused too-large\n", into),
         Refusal::TooMany => put(b"refused too-many\n", into),
-        Refusal::Redefined { atom } => print_redefined(atom.as_slice(), into),
+        Refusal::Redefined { atom } => print_named(b"refused redefined ", atom.as_slice(), into),
+        Refusal::RecursiveAggregate { atom } => {
+            print_named(b"refused aggregate ", atom.as_slice(), into)
+        }
         Refusal::CrossLoop { new_head, old } => {
             print_loop(new_head.as_slice(), old.as_slice(), into)
         }
@@ -80,11 +82,12 @@ fn print_refusal(refusal: &Refusal, into: &mut Vec<u8>) -> Result<(), OutOfMemor
     }
 }
 
-fn print_redefined(atom: &[u8], into: &mut Vec<u8>) -> Result<(), OutOfMemory>
-    ensures ok { OnOk result (into.new.items ≡ into.old.items ++ line (codes "refused redefined " ++ atom.now)) }
+/// Appends a line that ends in an atom.
+fn print_named(words: &[u8], atom: &[u8], into: &mut Vec<u8>) -> Result<(), OutOfMemory>
+    ensures ok { OnOk result (into.new.items ≡ into.old.items ++ line (words.now ++ atom.now)) }
     ensures err { OnErr result (into.new.items ≡ into.old.items) }
 {
-    let mut text = b"refused redefined ".to_vec(*into.allocator())?;
+    let mut text = words.to_vec(*into.allocator())?;
     text.extend_from_slice(atom)?;
     text.push(b'\n')?;
     put(text.as_slice(), into)
@@ -137,9 +140,9 @@ fn print_solved(
     shown: &Shown,
     into: &mut Vec<u8>,
 ) -> Result<(), OutOfMemory>
-    requires { All (All (λ t. t < length (trees terms.now))) shown.now }
+    requires { All (All (λ t. t < length terms.now)) shown.now }
     ensures ok { OnOk result (into.new.items
-        ≡ into.old.items ++ reply_text (said_by (trees terms.now) (Solved ending count limit shown.now))) }
+        ≡ into.old.items ++ reply_text (said_by terms.now (Solved ending count limit shown.now))) }
     ensures err { OnErr result (into.new.items ≡ into.old.items) }
 {
     let mut text = Vec::new(*into.allocator());

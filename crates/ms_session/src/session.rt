@@ -3,10 +3,10 @@ ghost use Rattle.std.specs.Prelude.{◌≡◌, ◌≤◌, ℕ, [], false, true, 
 ghost use Rattle.std.specs.Option.{option_copied};
 ghost use Rattle.ms_core.specs.Texts.{constant};
 ghost use Rattle.ms_call.specs.declared.command.Command.TheVariants.{Add, Assign, Ground, Release, Solve};
-ghost use Rattle.ms_machine.specs.Listing.{tree_of_value};
+ghost use Rattle.ms_solving.specs.Listing.{tree_of_value};
 ghost use Rattle.ms_machine.specs.Machine.{start};
 ghost use Rattle.ms_machine.specs.Replies.{reply_text, said_by};
-ghost use Rattle.ms_session.specs.Kept.{Assigns, IsDone, IsFound, IsGiven, IsNamed, IsSealed, Releases, state_of, table_of};
+ghost use Rattle.ms_session.specs.Kept.{Assigns, IsDone, IsFound, IsGiven, IsNamed, IsSealed, Releases, state_of};
 ghost use Rattle.ms_call.specs.Commands.{AsksForSome};
 
 use crate::adding::add_text;
@@ -18,9 +18,9 @@ use ms_atombase::AtomBase;
 use ms_base::atom_id::AtomId;
 use ms_base::memory::OutOfMemory;
 use ms_base::seq::Seq;
+use ms_base::truth::{Effect, Truth};
 use ms_call::command::{Assumptions, Calls, Command};
 use ms_grammar::value::Value;
-use ms_base::truth::{Effect, Truth};
 use ms_lits::Notes;
 use ms_machine::reply::Reply;
 use ms_module::Join;
@@ -46,7 +46,6 @@ pub struct Session {
 impl Model for Session {
     ghost use Rattle.std.specs.Prelude.{◌≡◌, [], false};
     ghost use Rattle.std.specs.Coded.{codes};
-    ghost use Rattle.ms_term.specs.Terms.{trees};
     ghost use Rattle.ms_grammar.specs.contracts.term.TextTerm as term;
     ghost use Rattle.ms_grammar.specs.contracts.value.Value as value;
     ghost use Rattle.ms_session.specs.Kept.{Kept, IsSound};
@@ -55,9 +54,9 @@ impl Model for Session {
 
     ghost coded = { Prim.hlevel (codes, term.the_row.coded, value.the_row.coded) };
 
-    ghost view = { λ s. record { sealed = s.sealed; nodes = s.terms; texts = s.parts; base = s.base; join = s.join } };
+    ghost view = { λ s. record { sealed = s.sealed; table = s.terms; texts = s.parts; base = s.base; join = s.join; notes = s.notes } };
 
-    ghost invariant = { λ s. (s.notes ≡ []) × (s.sealed ≡ false → IsSound (trees s.terms) s.base s.join) };
+    ghost invariant = { λ s. (s.notes ≡ []) × (s.sealed ≡ false → IsSound s.terms s.base s.join) };
 }
 
 impl Session {
@@ -83,9 +82,9 @@ impl Session {
         self.sealed
     }
 
-    /// The notes of the last command for the log. There are none yet.
+    /// The lines of the log that the last command gave. No command gives any yet.
     pub fn notes(&self) -> &Notes
-        ensures { result.now ≡ [] }
+        ensures { result.now ≡ self.now.notes }
     {
         &self.notes
     }
@@ -110,7 +109,7 @@ impl Session {
         given
     }
 
-    /// The number of an atom, or none exactly where the base has no such atom.
+    /// The number of an atom, or none exactly where the base has no such atom. Nothing else is kept of the look-up.
     pub fn find(&mut self, alloc: Global, atom: &Value) -> Result<Option<AtomId>, OutOfMemory>
         ensures ok { IfOk result (IsFound self.old (tree_of_value atom.now) self.new) }
         ensures err { OnErr result (IsSealed self.old self.new) }
@@ -118,7 +117,7 @@ impl Session {
         if self.sealed {
             return Err(OutOfMemory);
         }
-        let found = find_atom(alloc, &mut self.terms, &self.base, atom);
+        let found = find_atom(alloc, &self.terms, &self.base, atom);
         self.sealed = found.is_err();
         found
     }
@@ -203,7 +202,7 @@ impl Session {
         let reply = solve_join(
             alloc,
             &self.parts,
-            &mut self.terms,
+            &self.terms,
             &self.base,
             &self.join,
             count,
@@ -271,11 +270,11 @@ impl Session {
     /// for it a front of it was appended, or nothing. A reply that this session gave may be printed at any later time
     /// until the session is sealed, since each call that is done keeps what names meant before.
     pub fn print(&mut self, reply: &Reply, into: &mut Vec<u8>) -> Result<(), OutOfMemory>
-        requires { IsNamed (length (table_of self.old)) reply.now }
-        ensures ok { OnOk result (into.new.items ≡ into.old.items ++ reply_text (said_by (table_of self.old) reply.now)) }
+        requires { IsNamed (length self.old.table) reply.now }
+        ensures ok { OnOk result (into.new.items ≡ into.old.items ++ reply_text (said_by self.old.table reply.now)) }
         ensures open { OnOk result ((self.old.sealed ≡ false) × (self.new ≡ self.old)) }
         ensures front { OnErr result ((k : ℕ) × (into.new.items
-            ≡ into.old.items ++ take k (reply_text (said_by (table_of self.old) reply.now)))) }
+            ≡ into.old.items ++ take k (reply_text (said_by self.old.table reply.now)))) }
         ensures err { OnErr result (IsSealed self.old self.new) }
     {
         if self.sealed {

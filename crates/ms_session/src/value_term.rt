@@ -1,43 +1,48 @@
-// The terms that values are, under their names in a table.
+// The names that a table has for the terms that values are.
 ghost use Rattle.std.specs.Prelude.{IfOk, map};
-ghost use Rattle.ms_term.specs.Terms.{trees};
-ghost use Rattle.ms_machine.specs.Listing.{row, tree_of_value};
-ghost use Rattle.ms_session.specs.Naming.{AreNamesOf, IsNameOf};
+ghost use Rattle.ms_solving.specs.Listing.{row, tree_of_value};
+ghost use Rattle.ms_session.specs.Naming.{AreNamedIn, IsNamedIn};
 
 use ms_base::memory::OutOfMemory;
 use ms_grammar::value::Value;
 use ms_term::{TermId, Terms};
 use std::alloc::Global;
 
-/// The name of the term that a value is. Names of the table stay what they were. It calls itself as deep as functions
-/// stand in one another.
-#[cycle(term_of)]
-pub(crate) fn term_of(
+/// The name that the table has for the term that a value is, or none exactly where it has none. It calls itself as deep
+/// as functions stand in one another.
+#[cycle(find_term)]
+pub(crate) fn find_term(
     alloc: Global,
-    terms: &mut Terms,
+    terms: &Terms,
     value: &Value,
-) -> Result<TermId, OutOfMemory>
-    ensures { IfOk result (IsNameOf (trees terms.old) (trees terms.new) (tree_of_value value.now)) }
+) -> Result<Option<TermId>, OutOfMemory>
+    ensures { IfOk result (IsNamedIn terms.now (tree_of_value value.now)) }
 {
     match value {
-        Value::Number(n) => terms.number(*n),
-        Value::Text(bytes) => terms.text(bytes.as_slice()),
-        Value::Function(name, args) => {
-            let args = terms_of(alloc, terms, args.as_slice())?;
-            terms.function(name.as_slice(), args.as_slice())
-        }
+        Value::Number(n) => Ok(terms.find_number(*n)),
+        Value::Text(bytes) => Ok(terms.find_text(bytes.as_slice())),
+        Value::Function(name, args) => match find_terms(alloc, terms, args.as_slice())? {
+            Some(args) => Ok(terms.find_function(name.as_slice(), args.as_slice())),
+            None => Ok(None),
+        },
     }
 }
 
-/// The names of the terms that values are.
-#[cycle(term_of)]
-fn terms_of(alloc: Global, terms: &mut Terms, values: &[Value]) -> Result<Vec<TermId>, OutOfMemory>
-    ensures { IfOk result (AreNamesOf (trees terms.old) (trees terms.new) (row (map tree_of_value values.now))) }
+/// The names of the terms that values are, or none where the table lacks one of them.
+#[cycle(find_term)]
+fn find_terms(
+    alloc: Global,
+    terms: &Terms,
+    values: &[Value],
+) -> Result<Option<Vec<TermId>>, OutOfMemory>
+    ensures { IfOk result (AreNamedIn terms.now (row (map tree_of_value values.now))) }
 {
     let mut names = Vec::with_capacity(alloc, values.len())?;
     for value in values {
-        let name = term_of(alloc, terms, value)?;
-        names.push(name)?;
+        match find_term(alloc, terms, value)? {
+            Some(name) => names.push(name)?,
+            None => return Ok(None),
+        }
     }
-    Ok(names)
+    Ok(Some(names))
 }

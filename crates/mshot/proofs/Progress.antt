@@ -1,6 +1,5 @@
--- How the replies go on by one item.
+-- How the outputs go on by one item.
 use Rattle.std.proofs.Common.{◌≡◌, ◌∙◌, inl, inr, ℕ, ◌+◌, Bool, true, false, ◌||◌, List, [], ◌∷◌, ◌++◌, length, take, Option, Some, None, IsSome, Result, Ok, Err, IfOk, OnOk, OnErr, sym, subst, ap, refl, append_assoc}
-use Rattle.std.specs.List.{list_any}
 use Rattle.std.proofs.lemmas.Bool.{false≢true}
 use Rattle.std.proofs.lemmas.List.{append-nil}
 use Rattle.std.proofs.Math.Seq.{take-length, take-append-add}
@@ -10,44 +9,48 @@ use Rattle.ms_lines.specs.declared.Lines.{Lines}
 use Rattle.ms_lines.specs.Feeding.{HasLeft, SaysAtEnd}
 use Rattle.ms_machine.specs.declared.reply.Refusal.TheVariants.{Unfinished}
 use Rattle.ms_machine.specs.Machine.{State, start}
-use Rattle.ms_machine.specs.Replies.{Reply, refused, replies_text, reply_text, is_refused}
-use Rattle.ms_machine.specs.Scripts.{Takes, Run, Replies, reply_at_end}
+use Rattle.ms_machine.specs.Replies.{Output, any_refused, refused, replies_text, reply_text, is_refused}
+use Rattle.ms_machine.specs.Scripts.{Takes, Run, Replies, output_at_end}
 use Rattle.mshot.specs.Outcome.{WritesReplies}
 use Rattle.mshot.specs.Serving.{HasSaid, HasAnswered, HasStopped, WritesFrontOf}
 
+-- what is given for a text that the end cuts off
+abbrev cut_off : Output
+cut_off = record { reply = refused Unfinished; log = [] }
+
 -- a run goes on by one item
-pub Run-push : (a b c : State) (items : List Item) (replies : List Reply) (item : Item) (reply : Reply) → Run a items replies b → Takes b item reply c → Run a (items ++ item ∷ []) (replies ++ reply ∷ []) c
+pub Run-push : (a b c : State) (items : List Item) (outputs : List Output) (item : Item) (output : Output) → Run a items outputs b → Takes b item output c → Run a (items ++ item ∷ []) (outputs ++ output ∷ []) c
 unfolding Run
-Run-push a b c [] [] item reply run step = (c, subst (λ s. Takes s item reply c) run step, refl)
-Run-push a b c [] (r ∷ rs) item reply run step = absurd run
-Run-push a b c (i ∷ is) [] item reply run step = absurd run
-Run-push a b c (i ∷ is) (r ∷ rs) item reply (mid, first, run) step = (mid, first, Run-push mid b c is rs item reply run step)
+Run-push a b c [] [] item output run step = (c, subst (λ s. Takes s item output c) run step, refl)
+Run-push a b c [] (r ∷ rs) item output run step = absurd run
+Run-push a b c (i ∷ is) [] item output run step = absurd run
+Run-push a b c (i ∷ is) (r ∷ rs) item output (mid, first, run) step = (mid, first, Run-push mid b c is rs item output run step)
 
 pub run_nothing : (state : State) → state ≡ start → Run start [] [] state
 unfolding Run
 run_nothing state is = is
 
-replies_text-push : (replies : List Reply) (reply : Reply) → replies_text (replies ++ reply ∷ []) ≡ replies_text replies ++ reply_text reply
-replies_text-push [] reply = append-nil (reply_text reply)
-replies_text-push (r ∷ rs) reply = ap (λ t. reply_text r ++ t) (replies_text-push rs reply) ∙ sym (append_assoc (reply_text r) (replies_text rs) (reply_text reply))
+replies_text-push : (outputs : List Output) (output : Output) → replies_text (outputs ++ output ∷ []) ≡ replies_text outputs ++ reply_text output.reply
+replies_text-push [] output = append-nil (reply_text output.reply)
+replies_text-push (r ∷ rs) output = ap (λ t. reply_text r.reply ++ t) (replies_text-push rs output) ∙ sym (append_assoc (reply_text r.reply) (replies_text rs) (reply_text output.reply))
 
-refusals-push : (replies : List Reply) (reply : Reply) → list_any is_refused (replies ++ reply ∷ []) ≡ (list_any is_refused replies || is_refused reply)
-refusals-push [] reply = or-false (is_refused reply)
-refusals-push (r ∷ rs) reply = ap (λ b. is_refused r || b) (refusals-push rs reply) ∙ sym (or_assoc (is_refused r) (list_any is_refused rs) (is_refused reply))
+refusals-push : (outputs : List Output) (output : Output) → any_refused (outputs ++ output ∷ []) ≡ (any_refused outputs || is_refused output.reply)
+refusals-push [] output = or-false (is_refused output.reply)
+refusals-push (r ∷ rs) output = ap (λ b. is_refused r.reply || b) (refusals-push rs output) ∙ sym (or_assoc (is_refused r.reply) (any_refused rs) (is_refused output.reply))
 
 or-true : (b : Bool) → (b || true) ≡ true
 or-true true = refl
 or-true false = refl
 
--- the same bytes, as a front of the replies with one more
-cut_written : (held : List ℕ) (replies : List Reply) (reply : Reply) (count : ℕ) → held ++ replies_text replies ++ take count (reply_text reply) ≡ held ++ take (length (replies_text replies) + count) (replies_text (replies ++ reply ∷ []))
-cut_written held replies reply count =
-    append_assoc held (replies_text replies) (take count (reply_text reply))
-    ∙ ap (λ t. held ++ t) (sym (take-append-add (replies_text replies) (reply_text reply) count))
-    ∙ ap (λ t. held ++ take (length (replies_text replies) + count) t) (sym (replies_text-push replies reply))
+-- the same bytes, as a front of the outputs with one more
+cut_written : (held : List ℕ) (outputs : List Output) (output : Output) (count : ℕ) → held ++ replies_text outputs ++ take count (reply_text output.reply) ≡ held ++ take (length (replies_text outputs) + count) (replies_text (outputs ++ output ∷ []))
+cut_written held outputs output count =
+    append_assoc held (replies_text outputs) (take count (reply_text output.reply))
+    ∙ ap (λ t. held ++ t) (sym (take-append-add (replies_text outputs) (reply_text output.reply) count))
+    ∙ ap (λ t. held ++ take (length (replies_text outputs) + count) t) (sym (replies_text-push outputs output))
 
-one_written : (held : List ℕ) (replies : List Reply) (reply : Reply) → held ++ replies_text replies ++ reply_text reply ≡ held ++ replies_text (replies ++ reply ∷ [])
-one_written held replies reply = append_assoc held (replies_text replies) (reply_text reply) ∙ ap (λ t. held ++ t) (sym (replies_text-push replies reply))
+one_written : (held : List ℕ) (outputs : List Output) (output : Output) → held ++ replies_text outputs ++ reply_text output.reply ≡ held ++ replies_text (outputs ++ output ∷ [])
+one_written held outputs output = append_assoc held (replies_text outputs) (reply_text output.reply) ∙ ap (λ t. held ++ t) (sym (replies_text-push outputs output))
 
 -- what the script said
 pub said_first : (script : List ℕ) (lines : Lines) → lines ≡ record { text = None; rest = script } → HasSaid script [] lines
@@ -84,12 +87,12 @@ left_open : (lines : Lines) → lines.rest ≡ [] → HasLeft lines true [] [] l
 unfolding HaveItems lines_in
 left_open lines none = subst (λ rest. HaveItems lines.text (lines_in true (rest ++ [])) [] lines.text) (sym none) (refl, refl)
 
--- no item has its reply yet
+-- no item has its output yet
 pub answered_none : (script : List ℕ) (lines : Lines) (state : State) (held : List ℕ) (now : Option (List ℕ)) → HasSaid script [] lines → state ≡ start → now ≡ Some held → HasAnswered script lines state false held now
 answered_none script lines state held now said first at = record {
   front = [];
   said = said;
-  replies = [];
+  outputs = [];
   run = run_nothing state first;
   written = at ∙ ap Some (sym (append-nil held));
   refusals = refl;
@@ -99,10 +102,10 @@ module _ (script : List ℕ) (lines : Lines) (state : State) (refusal : Bool) (h
   -- it stops between two items
   pub answered_front : HasStopped script held now
   answered_front = (
-    held ++ replies_text done.replies,
+    held ++ replies_text done.outputs,
     done.written,
     record {
-      replies = done.replies;
+      outputs = done.outputs;
       to_front = inl (record {
         front = done.front;
         begins = λ items cut has.
@@ -111,8 +114,8 @@ module _ (script : List ℕ) (lines : Lines) (state : State) (refusal : Bool) (h
         last = state;
         run = done.run;
       });
-      count = length (replies_text done.replies);
-      written = ap (λ t. held ++ t) (sym (take-length (replies_text done.replies)));
+      count = length (replies_text done.outputs);
+      written = ap (λ t. held ++ t) (sym (take-length (replies_text done.outputs)));
     },
   )
 
@@ -121,94 +124,94 @@ module _ (script : List ℕ) (lines : Lines) (state : State) (refusal : Bool) (h
   answered_end after next = record {
     front = done.front;
     said = said_nothing script done.front lines after done.said next;
-    replies = done.replies;
+    outputs = done.outputs;
     run = done.run;
     written = done.written;
     refusals = done.refusals;
   }
 
-  -- one more reply, whole or in part
-  module _ (after : Lines) (new : State) (item : Item) (reply : Reply) (says : SaysAtEnd lines (Some item) after) (step : Takes state item reply new) (next : Option (List ℕ)) where
-    pub answered_more : (more : Bool) → more ≡ (refusal || is_refused reply) → ((text : List ℕ) → now ≡ Some text → next ≡ Some (text ++ reply_text reply)) → HasAnswered script after new more held next
+  -- one more output, whole or in part
+  module _ (after : Lines) (new : State) (item : Item) (output : Output) (says : SaysAtEnd lines (Some item) after) (step : Takes state item output new) (next : Option (List ℕ)) where
+    pub answered_more : (more : Bool) → more ≡ (refusal || is_refused output.reply) → ((text : List ℕ) → now ≡ Some text → next ≡ Some (text ++ reply_text output.reply)) → HasAnswered script after new more held next
     answered_more more is put = record {
       front = done.front ++ item ∷ [];
       said = said_more script done.front lines after item done.said says;
-      replies = done.replies ++ reply ∷ [];
-      run = Run-push start state new done.front done.replies item reply done.run step;
-      written = put (held ++ replies_text done.replies) done.written ∙ ap Some (one_written held done.replies reply);
-      refusals = refusals-push done.replies reply ∙ ap (λ b. b || is_refused reply) done.refusals ∙ sym is;
+      outputs = done.outputs ++ output ∷ [];
+      run = Run-push start state new done.front done.outputs item output done.run step;
+      written = put (held ++ replies_text done.outputs) done.written ∙ ap Some (one_written held done.outputs output);
+      refusals = refusals-push done.outputs output ∙ ap (λ b. b || is_refused output.reply) done.refusals ∙ sym is;
     }
 
-    pub answered_part : ((text : List ℕ) → now ≡ Some text → WritesFrontOf (reply_text reply) text next) → HasStopped script held next
+    pub answered_part : ((text : List ℕ) → now ≡ Some text → WritesFrontOf (reply_text output.reply) text next) → HasStopped script held next
     answered_part put =
-        let part = put (held ++ replies_text done.replies) done.written in (
-          held ++ replies_text done.replies ++ take part.0 (reply_text reply),
+        let part = put (held ++ replies_text done.outputs) done.written in (
+          held ++ replies_text done.outputs ++ take part.0 (reply_text output.reply),
           part.1,
           record {
-            replies = done.replies ++ reply ∷ [];
+            outputs = done.outputs ++ output ∷ [];
             to_front = inl (record {
               front = done.front ++ item ∷ [];
               begins = λ items cut has.
                   let b = (said_more script done.front lines after item done.said says items cut).0 has in
                   (b.0, b.1);
               last = new;
-              run = Run-push start state new done.front done.replies item reply done.run step;
+              run = Run-push start state new done.front done.outputs item output done.run step;
             });
-            count = length (replies_text done.replies) + part.0;
-            written = cut_written held done.replies reply part.0;
+            count = length (replies_text done.outputs) + part.0;
+            written = cut_written held done.outputs output part.0;
           },
         )
 
   -- the script is read to its end
   module _ (none : lines.rest ≡ []) where
-    all_replies : (ends : List Reply) → reply_at_end lines.text ≡ ends → Replies script (done.replies ++ ends)
+    all_replies : (ends : List Output) → output_at_end lines.text ≡ ends → Replies script (done.outputs ++ ends)
     all_replies ends are = record {
       items = done.front;
       cut = lines.text;
       has = (done.said done.front lines.text).1 ([], sym (append-nil done.front), left_open lines none);
-      to_items = done.replies;
+      to_items = done.outputs;
       last = state;
       run = done.run;
-      all = ap (λ e. done.replies ++ e) (sym are);
+      all = ap (λ e. done.outputs ++ e) (sym are);
     }
 
     -- and no text is open
-    pub ended_whole : reply_at_end lines.text ≡ [] → (text : List ℕ) × (now ≡ Some text) × WritesReplies refusal script held text
+    pub ended_whole : output_at_end lines.text ≡ [] → (text : List ℕ) × (now ≡ Some text) × WritesReplies refusal script held text
     ended_whole are = (
-      held ++ replies_text done.replies,
+      held ++ replies_text done.outputs,
       done.written,
       record {
-        replies = done.replies;
-        to_script = subst (λ rs. Replies script rs) (append-nil done.replies) (all_replies [] are);
+        outputs = done.outputs;
+        to_script = subst (λ rs. Replies script rs) (append-nil done.outputs) (all_replies [] are);
         written = refl;
         refusals = done.refusals;
       },
     )
 
     -- or one is
-    module _ (are : reply_at_end lines.text ≡ refused Unfinished ∷ []) (next : Option (List ℕ)) where
+    module _ (are : output_at_end lines.text ≡ cut_off ∷ []) (next : Option (List ℕ)) where
       pub cut_whole : (more : Bool) → more ≡ true → ((text : List ℕ) → now ≡ Some text → next ≡ Some (text ++ reply_text (refused Unfinished))) → (text : List ℕ) × (next ≡ Some text) × WritesReplies more script held text
       cut_whole more is put = (
-        held ++ replies_text (done.replies ++ refused Unfinished ∷ []),
-        put (held ++ replies_text done.replies) done.written ∙ ap Some (one_written held done.replies (refused Unfinished)),
+        held ++ replies_text (done.outputs ++ cut_off ∷ []),
+        put (held ++ replies_text done.outputs) done.written ∙ ap Some (one_written held done.outputs cut_off),
         record {
-          replies = done.replies ++ refused Unfinished ∷ [];
-          to_script = all_replies (refused Unfinished ∷ []) are;
+          outputs = done.outputs ++ cut_off ∷ [];
+          to_script = all_replies (cut_off ∷ []) are;
           written = refl;
-          refusals = refusals-push done.replies (refused Unfinished) ∙ or-true (list_any is_refused done.replies) ∙ sym is;
+          refusals = refusals-push done.outputs cut_off ∙ or-true (any_refused done.outputs) ∙ sym is;
         },
       )
 
       pub cut_part : ((text : List ℕ) → now ≡ Some text → WritesFrontOf (reply_text (refused Unfinished)) text next) → HasStopped script held next
       cut_part put =
-          let part = put (held ++ replies_text done.replies) done.written in (
-            held ++ replies_text done.replies ++ take part.0 (reply_text (refused Unfinished)),
+          let part = put (held ++ replies_text done.outputs) done.written in (
+            held ++ replies_text done.outputs ++ take part.0 (reply_text (refused Unfinished)),
             part.1,
             record {
-              replies = done.replies ++ refused Unfinished ∷ [];
-              to_front = inr (all_replies (refused Unfinished ∷ []) are);
-              count = length (replies_text done.replies) + part.0;
-              written = cut_written held done.replies (refused Unfinished) part.0;
+              outputs = done.outputs ++ cut_off ∷ [];
+              to_front = inr (all_replies (cut_off ∷ []) are);
+              count = length (replies_text done.outputs) + part.0;
+              written = cut_written held done.outputs cut_off part.0;
             },
           )
 
@@ -218,7 +221,7 @@ stopped_before script held now at = (
   held,
   at,
   record {
-    replies = [];
+    outputs = [];
     to_front = inl (record { front = []; begins = λ items cut has. (items, refl); last = start; run = run_nothing start refl });
     count = 0;
     written = sym (append-nil held);
@@ -226,16 +229,16 @@ stopped_before script held now at = (
 )
 
 -- whether a text is open at the end
-pub some_at_end : (cut : Open) → IsSome cut → reply_at_end cut ≡ refused Unfinished ∷ []
+pub some_at_end : (cut : Open) → IsSome cut → output_at_end cut ≡ cut_off ∷ []
 some_at_end (Some text) is = refl
 some_at_end None is = absurd (false≢true is)
 
-pub none_at_end : (cut : Open) → ¬ IsSome cut → reply_at_end cut ≡ []
+pub none_at_end : (cut : Open) → ¬ IsSome cut → output_at_end cut ≡ []
 none_at_end (Some text) is = absurd (is refl)
 none_at_end None is = refl
 
--- what the last reply leaves, where a text is open
-module _ (lines : Lines) (state : State) (refusal : Bool) (before after : Option (List ℕ)) (none : lines.rest ≡ []) (are : reply_at_end lines.text ≡ refused Unfinished ∷ []) {E : Type 0} where
+-- what the last output leaves, where a text is open
+module _ (lines : Lines) (state : State) (refusal : Bool) (before after : Option (List ℕ)) (none : lines.rest ≡ []) (are : output_at_end lines.text ≡ cut_off ∷ []) {E : Type 0} where
   pub cut_replies : (r : Result Bool E) → IfOk r (λ more. more ≡ true) → OnOk r ((held : List ℕ) → before ≡ Some held → after ≡ Some (held ++ reply_text (refused Unfinished)))
       → IfOk r (λ more. (script held : List ℕ) → HasAnswered script lines state refusal held before → (now : List ℕ) × (after ≡ Some now) × WritesReplies more script held now)
   cut_replies (Ok more) is put = λ script held done. cut_whole script lines state refusal held before done none are after more is put

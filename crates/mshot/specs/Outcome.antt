@@ -1,9 +1,8 @@
 -- What a call leaves written and read, for each status.
 use Rattle.std.specs.Prelude.{ℕ, ◌≡◌, ◌<◌, ◌≤◌, ◌+◌, ◌⊎◌, Bool, true, false, List, [], ◌++◌, length, take, drop, Option, Some, None}
-use Rattle.std.specs.List.{list_any}
 use Rattle.ms_call.specs.Items.{Item, Open, HasItems}
 use Rattle.ms_machine.specs.Machine.{State, start}
-use Rattle.ms_machine.specs.Replies.{Reply, replies_text, is_refused}
+use Rattle.ms_machine.specs.Replies.{Output, any_refused, replies_text}
 use Rattle.ms_machine.specs.Scripts.{Run, Replies}
 use Rattle.mshot.specs.declared.status.Status.{Status}
 use Rattle.mshot.specs.declared.status.Status.TheVariants.{Done, SomeRefused, Usage, ReadFault, WriteFault, LogFault, TooLong, NoMemory}
@@ -11,29 +10,29 @@ use Rattle.mshot.specs.Input.{most_bytes, IsRestOf}
 
 -- To what was held the replies of the machine to the whole script were added, and nothing else.
 pub record WritesReplies (refused : Bool) (script held now : List ℕ) : Type 0 where
-  pub replies : List Reply
-  pub to_script : Replies script replies
-  pub written : now ≡ held ++ replies_text replies
-  pub refusals : list_any is_refused replies ≡ refused
+  pub outputs : List Output
+  pub to_script : Replies script outputs
+  pub written : now ≡ held ++ replies_text outputs
+  pub refusals : any_refused outputs ≡ refused
 
 -- These are the first items of the script.
 abbrev pub BeginsWith : List ℕ → List Item → Type 0
 BeginsWith script front = (items : List Item) (cut : Open) → HasItems None script items cut → (back : List Item) × (items ≡ front ++ back)
 
 -- The machine may give these replies to the first items of the script.
-pub record RepliesToFront (script : List ℕ) (replies : List Reply) : Type 0 where
+pub record RepliesToFront (script : List ℕ) (outputs : List Output) : Type 0 where
   pub front : List Item
   pub begins : BeginsWith script front
   pub last : State
-  pub run : Run start front replies last
+  pub run : Run start front outputs last
 
 -- To what was held replies of the machine were added, to a front of the script or to the whole of it, and the last
 -- bytes of these replies may be missing.
 pub record WritesFront (script held now : List ℕ) : Type 0 where
-  pub replies : List Reply
-  pub to_front : RepliesToFront script replies ⊎ Replies script replies
+  pub outputs : List Output
+  pub to_front : RepliesToFront script outputs ⊎ Replies script outputs
   pub count : ℕ
-  pub written : now ≡ held ++ take count (replies_text replies)
+  pub written : now ≡ held ++ take count (replies_text outputs)
 
 -- What a sink holds after a call on a script, for what it held before.
 abbrev pub Writes : Status → List ℕ → List ℕ → List ℕ → Type 0

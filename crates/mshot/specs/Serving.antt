@@ -1,12 +1,12 @@
 -- How far a script is answered.
 use Rattle.std.specs.Prelude.{ℕ, ◌≡◌, ◌↔◌, ◌<◌, ◌++◌, Bool, true, List, [], length, take, Option, Some, None}
-use Rattle.std.specs.List.{list_any}
 use Rattle.ms_call.specs.Items.{Item, Open, HasItems}
 use Rattle.ms_lines.specs.declared.Lines.{Lines}
 use Rattle.ms_lines.specs.Feeding.{HasLeft, SaysAtEnd}
+use Rattle.ms_lits.specs.declared.note.Note.{Note}
 use Rattle.ms_machine.specs.declared.reply.Reply.{Reply as kept_reply}
 use Rattle.ms_machine.specs.Machine.{State, start}
-use Rattle.ms_machine.specs.Replies.{Reply, said_by, replies_text, is_refused}
+use Rattle.ms_machine.specs.Replies.{Output, Reply, said_by, any_refused, replies_text}
 use Rattle.ms_machine.specs.Scripts.{Takes, Run}
 use Rattle.ms_session.specs.Kept.{Kept, IsNamed, state_of, table_of}
 use Rattle.mshot.specs.Outcome.{WritesFront}
@@ -18,7 +18,8 @@ reply_of session reply = said_by (table_of session) reply
 -- The script said the next item, and the session took its step. Or it says nothing more.
 abbrev pub Goes : Lines → Kept → Option kept_reply → Lines → Kept → Type 0
 Goes lines old (Some reply) rest new =
-    (item : Item) × SaysAtEnd lines (Some item) rest × Takes (state_of old) item (reply_of new reply) (state_of new)
+    (item : Item) × SaysAtEnd lines (Some item) rest
+    × (log : List Note) × Takes (state_of old) item (record { reply = reply_of new reply; log = log }) (state_of new)
     × IsNamed (length (table_of new)) reply × (length rest.rest < length lines.rest)
 Goes lines old None rest new = SaysAtEnd lines None rest × (rest.rest ≡ []) × (new ≡ old)
 
@@ -32,10 +33,10 @@ HasSaid script front lines =
 pub record HasAnswered (script : List ℕ) (rest : Lines) (state : State) (refused : Bool) (held : List ℕ) (now : Option (List ℕ)) : Type 0 where
   pub front : List Item
   pub said : HasSaid script front rest
-  pub replies : List Reply
-  pub run : Run start front replies state
-  pub written : now ≡ Some (held ++ replies_text replies)
-  pub refusals : list_any is_refused replies ≡ refused
+  pub outputs : List Output
+  pub run : Run start front outputs state
+  pub written : now ≡ Some (held ++ replies_text outputs)
+  pub refusals : any_refused outputs ≡ refused
 
 -- Replies to a front of the script were written.
 abbrev pub HasStopped : List ℕ → List ℕ → Option (List ℕ) → Type 0

@@ -9,6 +9,3 @@ pub mod words;
 
 pub use status::Status;
 pub use top::mshot;
-
-#[cfg(test)]
-mod tests;

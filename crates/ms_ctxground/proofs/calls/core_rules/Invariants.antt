@@ -1,5 +1,5 @@
 use Rattle.std.proofs.Common.{◌≡◌, take}
-use Rattle.ms_machine.specs.Grounding.{core_of_calls}
+use Rattle.ms_solving.specs.Grounding.{core_of_calls}
 use Rattle.ms_ctxground.proofs.calls.core_rules.Given as goal
 
 abbrev pub invariant-loop-call : goal.invariant-loop-call

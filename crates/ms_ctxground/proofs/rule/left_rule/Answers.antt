@@ -13,4 +13,5 @@ returns c =
       known = pos.0;
       pos = pos.1;
       neg = rw c.as_slice-2.ensures at c.in_ok-neg.ensures;
+      plain = c.new.ensures;
     }

@@ -1,9 +1,9 @@
 use Rattle.std.proofs.Common.{◌≡◌, ℕ, List, length, All, sym, subst}
 use Rattle.ms_join.specs.declared.ground_rule.Rules.{Rules}
 use Rattle.ms_join.specs.AnswerSets.{IsAtomSet}
-use Rattle.ms_answers.specs.declared.meeting.AtomLit.{AtomLit}
-use Rattle.ms_answers.specs.Meeting.{IsMeetingAnswer}
-use Rattle.ms_machine.specs.Listing.{AreAnswers}
+use Rattle.ms_join.specs.declared.assumption.AtomLit.{AtomLit}
+use Rattle.ms_join.specs.Assumptions.{IsMeetingAnswer}
+use Rattle.ms_solving.specs.Listing.{AreAnswers}
 use Rattle.ms_session.proofs.solving.list_answers.Goals as goal
 
 -- answers over a base are sets over it

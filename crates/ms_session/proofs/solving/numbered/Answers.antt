@@ -4,9 +4,9 @@ use Rattle.std.proofs.lemmas.List.{take_all}
 use Rattle.ms_term.specs.Terms.{trees, term_at}
 use Rattle.ms_tree.specs.Tree.{Tree}
 use Rattle.ms_call.specs.declared.command.Assumption.{Assumption}
-use Rattle.ms_answers.specs.declared.meeting.AtomLit.{AtomLit}
+use Rattle.ms_join.specs.declared.assumption.AtomLit.{AtomLit}
 use Rattle.ms_value.proofs.Tables.{keeps_then}
-use Rattle.ms_machine.specs.Listing.{tree_of_value}
+use Rattle.ms_solving.specs.Listing.{tree_of_value}
 use Rattle.ms_session.specs.Kept.{IsAtomOf}
 use Rattle.ms_session.specs.Assuming.{MeetSame}
 use Rattle.ms_session.proofs.Keeping.{named_kept, names_kept}
@@ -25,25 +25,25 @@ some_found : (names : List Tree) (t : Tree) (o : Option ℕ) (a : ℕ) → o ≡
 some_found names t o a is h = subst (λ (x : Option ℕ). MatchOption x (¬ Contains names t) (IsAtomOf names t)) is h
 
 pub find_atom-requires : goal.find_atom-requires
-find_atom-requires c = named_kept (trees c.args.terms.now) (trees c.loop-literal.terms) c.args.base.now c.loop-literal.invariant.keeps c.requires
+find_atom-requires c = named_kept c.args.terms.now c.loop-literal.terms c.args.base.now c.loop-literal.invariant.keeps c.requires
 
 pub returns-then-literal-clause-same : goal.returns-then-literal-clause-same
 returns-then-literal-clause-same c =
-    let names = map (term_at (trees c.args.terms.now)) c.args.base.now in
-    let here = names_kept (trees c.args.terms.now) (trees c.loop-literal.terms) c.args.base.now c.loop-literal.invariant.keeps c.requires in
+    let names = map (term_at c.args.terms.now) c.args.base.now in
+    let here = names_kept c.args.terms.now c.loop-literal.terms c.args.base.now c.loop-literal.invariant.keeps c.requires in
     let t = tree_of_value c.literal-item.result.atom in
     none_meets names c.args.assume.now c.loop-literal.literal-index c.literal-item.result c.loop-literal-test.true c.literal-item.is
-    (none_found names t c.in_ok-atom.field-0 c.in-None.is (found_first names (map (term_at (trees c.loop-literal.terms)) c.args.base.now) t c.in_ok-atom.field-0 here c.in_ok-atom.ensures.found))
+    (none_found names t c.in_ok-atom.field-0 c.in-None.is (found_first names (map (term_at c.loop-literal.terms) c.args.base.now) t c.in_ok-atom.field-0 here c.in_ok-atom.ensures.found))
     c.if-literal.true
 
 pub loop-literal-preserved : goal.loop-literal-preserved
 loop-literal-preserved c =
-    let names = map (term_at (trees c.args.terms.now)) c.args.base.now in
-    let here = names_kept (trees c.args.terms.now) (trees c.loop-literal.terms) c.args.base.now c.loop-literal.invariant.keeps c.requires in
+    let names = map (term_at c.args.terms.now) c.args.base.now in
+    let here = names_kept c.args.terms.now c.loop-literal.terms c.args.base.now c.loop-literal.invariant.keeps c.requires in
     let t = tree_of_value c.literal-item.result.atom in
-    let found = found_first names (map (term_at (trees c.loop-literal.terms)) c.args.base.now) t c.in_ok-atom.field-0 here c.in_ok-atom.ensures.found in
+    let found = found_first names (map (term_at c.loop-literal.terms) c.args.base.now) t c.in_ok-atom.field-0 here c.in_ok-atom.ensures.found in
     record {
-      keeps = keeps_then (trees c.args.terms.now) (trees c.loop-literal.terms) (trees c.find_atom.new.terms) c.loop-literal.invariant.keeps c.in_ok-atom.ensures.keeps;
+      keeps = keeps_then c.args.terms.now c.loop-literal.terms c.find_atom.new.terms c.loop-literal.invariant.keeps c.in_ok-atom.ensures.keeps;
       same = elim c.match-branch-2.branch [
         | in-Some+in_ok-push-in-Some w ↦ subst (λ (ls : List AtomLit). MeetSame names (take (c.loop-literal.literal-index + 1) c.args.assume.now) ls) (sym (ap (λ v. v.items) w.lits-is ∙ w.in_ok-push-in-Some.ensures.items))
             (one_more names c.args.assume.now c.loop-literal.literal-index c.literal-item.result c.loop-literal.lits.items w.in-Some.atom c.loop-literal-test.true c.literal-item.is c.loop-literal.invariant.same
@@ -56,5 +56,5 @@ loop-literal-preserved c =
 
 pub returns-clause-same : goal.returns-clause-same
 returns-clause-same c =
-    subst (λ (assume : List Assumption). MeetSame (map (term_at (trees c.args.terms.now)) c.args.base.now) assume c.loop-literal.lits.items)
+    subst (λ (assume : List Assumption). MeetSame (map (term_at c.args.terms.now) c.args.base.now) assume c.loop-literal.lits.items)
     (take_all c.loop-literal.literal-index c.args.assume.now c.loop-literal-test.false) c.loop-literal.invariant.same

@@ -6,6 +6,6 @@ use Rattle.ms_session.proofs.solving.numbered.Given as goal
 
 abbrev pub invariant-loop-literal : goal.invariant-loop-literal
 invariant-loop-literal l = record {
-  keeps : Keeps (trees l.fn.terms) (trees l.terms);
-  same : MeetSame (map (term_at (trees l.fn.terms)) l.base) (take l.literal-index l.assume) l.lits.items;
+  keeps : Keeps l.fn.terms l.terms;
+  same : MeetSame (map (term_at l.fn.terms) l.base) (take l.literal-index l.assume) l.lits.items;
 }

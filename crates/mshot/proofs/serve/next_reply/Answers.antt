@@ -5,6 +5,7 @@ pub returns-in-Ok : goal.returns-in-Ok
 returns-in-Ok c = (
   command c.in-Command.command,
   rw c.in-Command.is at c.in_ok-end.ensures.said,
+  c.step.new.self.notes,
   c.in-Ok.ensures.ok.step,
   c.in-Ok.ensures.ok.named,
   rw c.in-Command.is at c.in_ok-end.ensures.shorter,

@@ -13,15 +13,15 @@ pub returns-in-Err-put_reply-clause-stopped : goal.returns-in-Err-put_reply-clau
 returns-in-Err-put_reply-clause-stopped g c = λ script held first.
     let step = rw c.in-Ok-Some.field-0-is at c.in-Ok-Some.ensures in
     answered_part script c.loop-reply.lines (state_of c.loop-reply.session) c.loop-reply.refused held (g.K.Sink.held c.loop-reply.out) (c.loop-reply.invariant.answered script held first)
-    c.next_reply.new.lines (state_of c.next_reply.new.session) step.0 (reply_of c.next_reply.new.session c.in-Ok-Some.reply) step.1 step.2 (g.K.Sink.held c.put_reply.new.out) c.in-Err-put_reply.ensures.front
+    c.next_reply.new.lines (state_of c.next_reply.new.session) step.0 (record { reply = reply_of c.next_reply.new.session c.in-Ok-Some.reply; log = step.2 }) step.1 step.3 (g.K.Sink.held c.put_reply.new.out) c.in-Err-put_reply.ensures.front
 
 pub loop-reply-preserved : goal.loop-reply-preserved
 loop-reply-preserved g c = record {
   counts = search rules;
   answered = λ script held first.
       let step = rw c.in-Ok-Some.field-0-is at c.in-Ok-Some.ensures in
-      let took = subst (λ s. Takes (state_of c.loop-reply.session) step.0 (reply_of c.next_reply.new.session c.in-Ok-Some.reply) (state_of s)) (sym c.in-Ok.ensures.same) step.2 in
+      let took = subst (λ s. Takes (state_of c.loop-reply.session) step.0 (record { reply = reply_of c.next_reply.new.session c.in-Ok-Some.reply; log = step.2 }) (state_of s)) (sym c.in-Ok.ensures.same) step.3 in
       answered_more script c.loop-reply.lines (state_of c.loop-reply.session) c.loop-reply.refused held (g.K.Sink.held c.loop-reply.out) (c.loop-reply.invariant.answered script held first)
-      c.next_reply.new.lines (state_of c.put_reply.new.session) step.0 (reply_of c.next_reply.new.session c.in-Ok-Some.reply) step.1 took (g.K.Sink.held c.put_reply.new.out)
+      c.next_reply.new.lines (state_of c.put_reply.new.session) step.0 (record { reply = reply_of c.next_reply.new.session c.in-Ok-Some.reply; log = step.2 }) step.1 took (g.K.Sink.held c.put_reply.new.out)
       _ (ap (λ b. c.loop-reply.refused || b) c.in-Ok.ensures.refusal) c.in-Ok.ensures.whole;
 }

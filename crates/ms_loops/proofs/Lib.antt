@@ -1,0 +1,10 @@
+mod Walks
+mod Choosing
+mod Counting
+mod Unfounded
+mod Founding
+mod Members
+mod Writing
+mod Extended
+mod Nogoods
+pub mod Growing

@@ -1,0 +1,35 @@
+-- The law of completion and loops, first in words of sets alone and then of nogoods, and how the completion grows.
+-- Source: Lin and Zhao, "ASSAT: computing answer sets of a logic program by SAT solvers" (2004); over nogoods, Gebser,
+-- Kaufmann and Schaub, "Conflict-driven answer set solving: from theory to practice" (2012); modules after Oikarinen and
+-- Janhunen, "Modular equivalence for normal logic programs" (2006).
+use Rattle.std.specs.Prelude.{ℕ, ◌↔◌, ◌⊎◌, ◌++◌, Bool, List}
+use Rattle.ms_lits.specs.Literals.{Nogood}
+use Rattle.ms_join.specs.declared.ground_module.GroundModule.{GroundModule}
+use Rattle.ms_join.specs.Composability.{IsComposable}
+use Rattle.ms_join.specs.Modules.{Join, IsJoin, IsJoined, IsWellFormed}
+use Rattle.ms_join.specs.Possible.{IsPossible}
+use Rattle.ms_join.specs.Things.{Thing}
+use Rattle.ms_things.specs.Completion.{IsCompletionNogood, IsNewCompletion}
+use Rattle.ms_things.specs.Numbers.{AreThings, ext}
+use Rattle.ms_loops.specs.Founded.{ContainsNone, IsFoundedModel, IsOverBase}
+
+-- A possible set has atoms of the base alone.
+abbrev pub PossibleIsOverBase : Type 0
+PossibleIsOverBase = (j : Join) (set : ℕ → Bool) → IsJoin j → IsPossible j set → IsOverBase j set
+
+-- A set over the base is possible exactly where it is a founded model.
+abbrev pub PossibleIsFounded : Type 0
+PossibleIsFounded = (j : Join) (set : ℕ → Bool) → IsJoin j → IsOverBase j set → IsPossible j set ↔ IsFoundedModel j set
+
+-- A set over the base is possible exactly where the truths of the things in it contain no nogood of the join.
+abbrev pub CompletionAndLoops : Type 0
+CompletionAndLoops =
+    (j : Join) (things : List Thing) (set : ℕ → Bool) → IsJoin j → AreThings j things → IsOverBase j set
+    → IsPossible j set ↔ ContainsNone j things (ext set things)
+
+-- The completion nogoods of a join with a module are those that there were, and those that the module brings.
+abbrev pub CompletionGrows : Type 0
+CompletionGrows =
+    (old new : Join) (m : GroundModule) (things more : List Thing) (nogood : Nogood) → IsJoin old → IsWellFormed old.atoms m → IsComposable old m → IsJoined old m new
+    → AreThings old things → AreThings new (things ++ more)
+    → IsCompletionNogood new (things ++ more) nogood ↔ (IsCompletionNogood old things nogood ⊎ IsNewCompletion m (things ++ more) more nogood)

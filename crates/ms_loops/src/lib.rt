@@ -1,0 +1,26 @@
+// The law of completion and loops: which sets of atoms are possible for a join is what its nogoods say. Each law is the
+// contract of a function that does nothing: it speaks of every join and every set.
+#![tactic(auto)]
+
+ghost use Rattle.ms_loops.specs.Laws.{CompletionAndLoops, CompletionGrows, PossibleIsFounded, PossibleIsOverBase};
+
+/// A set that is possible has atoms of the base alone.
+pub fn possible_is_over_base()
+    ensures { PossibleIsOverBase }
+{}
+
+/// Exactly the founded models over the base are possible.
+pub fn possible_is_founded()
+    ensures { PossibleIsFounded }
+{}
+
+/// Exactly those sets over the base are possible that contain no completion nogood, no loop nogood and no aggregate
+/// nogood.
+pub fn completion_and_loops()
+    ensures { CompletionAndLoops }
+{}
+
+/// The completion nogoods of a join with a module are those that there were, and those that the module brings.
+pub fn completion_grows()
+    ensures { CompletionGrows }
+{}

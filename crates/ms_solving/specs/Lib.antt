@@ -1,0 +1,3 @@
+pub mod Grounding
+pub mod Listing
+pub mod Showing

@@ -1,0 +1,5 @@
+// Tests of the top call: worked scripts with their replies, their limits and their faults.
+#![tactic(auto)]
+
+#[cfg(test)]
+mod top_call;
