@@ -1,6 +1,5 @@
 // The test whether a module can be joined.
 ghost use Rattle.std.specs.Prelude.{◌≡◌, ℕ, ◌+◌, ◌<◌, ◌↔◌, ◌++◌, All, length, IsTrue, IfOk, MatchOption};
-ghost use Rattle.ms_term.specs.Terms.{trees};
 ghost use Rattle.ms_module.specs.Bodies.{ArePlain};
 ghost use Rattle.ms_join.specs.Composability.{Checks, HasTooMany, IsLeast, IsRedefined};
 ghost use Rattle.ms_join.specs.Modules.{IsOutput, IsWellFormed};
@@ -33,7 +32,7 @@ impl Join {
         m: &GroundModule,
     ) -> Result<(), JoinFault>
         requires well_formed { IsWellFormed self.now.atoms m.now }
-        requires named { All (λ t. t < length (trees terms.now)) base.now }
+        requires named { All (λ t. t < length terms.now) base.now }
         requires base { length base.now ≡ self.now.atoms + m.now.fresh }
         ensures { Checks (names_of terms.now base.now) self.now m.now result }
     {
@@ -52,7 +51,7 @@ impl Join {
         m: &GroundModule,
     ) -> Result<Option<JoinFault>, OutOfMemory>
         requires well_formed { IsWellFormed self.now.atoms m.now }
-        requires named { All (λ t. t < length (trees terms.now)) base.now }
+        requires named { All (λ t. t < length terms.now) base.now }
         requires base { length base.now ≡ self.now.atoms + m.now.fresh }
         ensures { IfOk result (Finds (names_of terms.now base.now) self.now m.now) }
     {
@@ -82,7 +81,7 @@ impl Join {
         base: &AtomBase,
         m: &GroundModule,
     ) -> Result<Option<AtomId>, OutOfMemory>
-        requires named { All (λ t. t < length (trees terms.now)) base.now }
+        requires named { All (λ t. t < length terms.now) base.now }
         requires heads { All (λ a. a < length base.now) m.now.heads }
         ensures { IfOk result (λ first. MatchOption first ((h : ℕ) → ¬ IsRedefined self.now m.now h) (IsLeast (names_of terms.now base.now) (IsRedefined self.now m.now))) }
     {

@@ -1,6 +1,5 @@
 // Loops through the heads of a module and the outputs of a join.
 ghost use Rattle.std.specs.Prelude.{◌≡◌, ℕ, ◌+◌, ◌<◌, ◌≤◌, Some, IsTrue, ◌↔◌, All, Contains, length, IfOk, MatchOption};
-ghost use Rattle.ms_term.specs.Terms.{trees};
 ghost use Rattle.ms_join.specs.Modules.{IsOutput, IsWellFormed};
 ghost use Rattle.ms_join.specs.Composability.{IsLeast};
 ghost use Rattle.ms_cone.specs.Cones.{number_of};
@@ -35,7 +34,7 @@ impl Join {
         m: &GroundModule,
     ) -> Result<Option<CrossLoop>, OutOfMemory>
         requires well_formed { IsWellFormed self.now.atoms m.now }
-        requires named { All (λ t. t < length (trees terms.now)) base.now }
+        requires named { All (λ t. t < length terms.now) base.now }
         requires base { length base.now ≡ self.now.atoms + m.now.fresh }
         ensures { IfOk result (FindsLoop (names_of terms.now base.now) self.now m.now) }
     {
@@ -64,7 +63,7 @@ impl Join {
         heads: &[AtomId],
         cone: &Cone,
     ) -> Result<Option<CrossLoop>, OutOfMemory>
-        requires named { All (λ t. t < length (trees terms.now)) base.now }
+        requires named { All (λ t. t < length terms.now) base.now }
         requires heads { All (λ a. a < length base.now) heads.now }
         requires base { self.now.atoms ≤ length base.now }
         ensures { IfOk result (FindsInCone (names_of terms.now base.now) self.now cone.now heads.now) }
@@ -94,7 +93,7 @@ impl Join {
         cone: &Cone,
         a: AtomId,
     ) -> Result<Option<AtomId>, OutOfMemory>
-        requires named { All (λ t. t < length (trees terms.now)) base.now }
+        requires named { All (λ t. t < length terms.now) base.now }
         requires base { self.now.atoms ≤ length base.now }
         requires outputs { AreThose cone.now.members (IsOutput self.now) outputs.now }
         requires member { HasNumber cone.now a }
