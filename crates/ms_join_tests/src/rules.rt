@@ -3,8 +3,8 @@ ghost use Rattle.ms_join.specs.AnswerSets.{AreRulesOver, IsAtomSet, IsRuleOver};
 
 use ms_base::seq::Seq;
 use ms_rules::{
-    AtomId, AtomIds, AtomSet, GroundKind, GroundRule, Input, Inputs, OutOfMemory, Rules, Scratch,
-    Truth, is_answer,
+    AtomId, AtomIds, AtomSet, GroundKind, GroundRule, Input, Inputs, OutOfMemory, RuleScratch,
+    Rules, Scratch, Truth, is_answer, is_answer_by,
 };
 use std::alloc::Global;
 use std::test::Fail;

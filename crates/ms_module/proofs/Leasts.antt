@@ -11,27 +11,27 @@ use Rattle.ms_tree.specs.Tree.{Tree, number}
 use Rattle.ms_tree.specs.Order.{compare_trees}
 use Rattle.ms_term.specs.Terms.{term_at}
 use Rattle.ms_term.proofs.Orders.{compare_trees-same}
-use Rattle.ms_term.proofs.TotalOrder.{compare_trees_total}
 use Rattle.ms_join.specs.Composability.{IsLeast, name_of}
 use Rattle.ms_module.specs.Names.{names_of, IsLesser}
+use Rattle.ms_term.proofs.TotalOrder.{compare_trees_total}
 use Rattle.ms_module.proofs.Changes.{next_atom}
 
 -- the term of an atom of the base
-pub name-at : (terms : List Tree) (base : List ℕ) (a t : ℕ) → slice_get base a ≡ Some t → name_of (names_of terms base) a ≡ term_at terms t
-name-at terms base a t is =
-    get_or_from_slice_get (map (term_at terms) base) a (term_at terms t) (number (pos 0))
-    (slice_get-map (term_at terms) base a ∙ ap (option_map (term_at terms)) is)
+pub name-at : (table : List Tree) (base : List ℕ) (a t : ℕ) → slice_get base a ≡ Some t → name_of (names_of table base) a ≡ term_at table t
+name-at table base a t is =
+    get_or_from_slice_get (map (term_at table) base) a (term_at table t) (number (pos 0))
+    (slice_get-map (term_at table) base a ∙ ap (option_map (term_at table)) is)
 
 -- the term of an atom is one of the table
 pub named : (bound a t : ℕ) (base : List ℕ) → All (λ t. t < bound) base → slice_get base a ≡ Some t → t < bound
 named bound a t base all is =
     subst (λ n. n < bound) (get_or_from_slice_get base a t t is) (all a t (slice_get_within base a t is))
 
-pub lesser_from : (terms : List Tree) (base : List ℕ) (a b s t : ℕ) (o : Ordering) → slice_get base a ≡ Some s → slice_get base b ≡ Some t
-    → o ≡ compare_trees (term_at terms s) (term_at terms t) → o ≡ compare_trees (name_of (names_of terms base) a) (name_of (names_of terms base) b)
-lesser_from terms base a b s t o at_a at_b is =
-    is ∙ (ap (λ x. compare_trees x (term_at terms t)) (sym (name-at terms base a s at_a))
-    ∙ ap (λ x. compare_trees (name_of (names_of terms base) a) x) (sym (name-at terms base b t at_b)))
+pub lesser_from : (table : List Tree) (base : List ℕ) (a b s t : ℕ) (o : Ordering) → slice_get base a ≡ Some s → slice_get base b ≡ Some t
+    → o ≡ compare_trees (term_at table s) (term_at table t) → o ≡ compare_trees (name_of (names_of table base) a) (name_of (names_of table base) b)
+lesser_from table base a b s t o at_a at_b is =
+    is ∙ (ap (λ x. compare_trees x (term_at table t)) (sym (name-at table base a s at_a))
+    ∙ ap (λ x. compare_trees (name_of (names_of table base) a) x) (sym (name-at table base b t at_b)))
 
 -- the least so far: it is one of the atoms, and none of the first ones is less
 pub record IsBest (names : List Tree) (atoms : List ℕ) (seen : List ℕ) (best : ℕ) : Type 0 where

@@ -8,7 +8,7 @@ use Rattle.ms_join.specs.Composability.{name_of}
 
 -- the terms of the atoms of a base
 abbrev pub names_of : List Tree → List ℕ → List Tree
-names_of terms base = map (term_at terms) base
+names_of table base = map (term_at table) base
 
 -- the first atom where its term is less, and else the second
 abbrev pub IsLesser : List Tree → ℕ → ℕ → ℕ → Type 0

@@ -4,7 +4,7 @@ ghost use Rattle.std.specs.List.{AllZip};
 ghost use Rattle.std.specs.List.Sorted.{IsPermutation, IsSorted};
 ghost use Rattle.std.specs.Cmp.Lexicographic.{slice_cmp};
 ghost use Rattle.ms_tree.specs.Order.{compare_trees};
-ghost use Rattle.ms_term.specs.Terms.{term_at, AllDifferent};
+ghost use Rattle.ms_term.specs.Terms.{term_at};
 ghost use Rattle.ms_join.specs.AnswerSets.{IsAtomSet};
 ghost use Rattle.ms_machine.specs.Listing.{IsListing};
 ghost use Rattle.ms_machine.specs.Machine.{shows_atom};
@@ -15,10 +15,9 @@ use ms_base::memory::OutOfMemory;
 use ms_base::seq::Seq;
 use ms_join::ground_module::TermIds;
 use ms_machine::reply::Shown;
-use ms_order::{compare_lists, in_term_order};
 use ms_parts::Parts;
 use ms_rules::AtomSet;
-use ms_term::{TermId, Terms};
+use ms_term::{TermId, Terms, compare_lists, in_term_order};
 use std::alloc::Global;
 
 /// Whether the texts show the atom.
@@ -64,7 +63,6 @@ fn shown_list(
     set: &AtomSet,
 ) -> Result<TermIds, OutOfMemory>
     requires base { AreIn terms.now base.now }
-    requires different { AllDifferent terms.now }
     requires over_base { IsAtomSet (length base.now) set.now }
     ensures { IfOk result (IsShownOf terms.now (shows_atom parts.now) base.now set.now) }
 {
@@ -81,7 +79,6 @@ fn shown_lists(
     sets: &[AtomSet],
 ) -> Result<Vec<TermIds>, OutOfMemory>
     requires base { AreIn terms.now base.now }
-    requires different { AllDifferent terms.now }
     requires over_base { All (IsAtomSet (length base.now)) sets.now }
     ensures { IfOk result
         (λ lists. AllZip (IsShownOf terms.now (shows_atom parts.now) base.now) sets.now lists.items) }
@@ -119,8 +116,6 @@ pub fn listing(
         (map (term_at terms.now) base.now) sets.now (map (map (term_at terms.now)) shown)) }
     ensures named { IfOk result (All (AreIn terms.now)) }
 {
-    // different names have different terms
-    let _ = terms.len();
     let lists = shown_lists(alloc, terms, base, parts, sets)?;
     Ok(in_list_order(terms, lists))
 }

@@ -6,7 +6,7 @@ use Rattle.std.proofs.lemmas.Fn.{always_returns_same}
 use Rattle.std.proofs.lemmas.List.MinMax.{ranks_by}
 use Rattle.ms_tree.specs.Order.{compare_trees}
 use Rattle.ms_term.specs.Terms.{term_at}
-use Rattle.ms_order.proofs.TotalOrder.{compare_trees_total}
+use Rattle.ms_term.proofs.TotalOrder.{compare_trees_total}
 use Rattle.ms_show.proofs.ListOrder.{IsSorted-map}
 use Rattle.ms_show.proofs.shown.in_list_order.Goals as goal
 
