@@ -106,9 +106,9 @@ fn inputs_of(alloc: Global, values: &[Option<bool>]) -> Result<Inputs, OutOfMemo
     ensures { IfOk result (All (λ i. i.atom < 4)) }
 {
     let mut inputs = Seq::new(alloc);
-    for (number, value) in (0..4).zip(values) {
+    for (number, value) in values.iter().enumerate() {
         inputs.push(Input {
-            atom: AtomId(number),
+            atom: AtomId((number % 4) as u32),
             value: *value,
         })?;
     }
