@@ -126,6 +126,7 @@ const fn tiny(head: Option<Atom>, pos: Option<Atom>, neg: Option<Atom>) -> TinyR
         head,
         pos,
         neg,
+        aggs: Seq::new(alloc),
     }
 }
 
@@ -135,6 +136,7 @@ const fn choice(head: Option<Atom>, pos: Option<Atom>, neg: Option<Atom>) -> Tin
         head,
         pos,
         neg,
+        aggs: Seq::new(alloc),
     }
 }
 

@@ -17,7 +17,8 @@ use Rattle.ms_join.specs.Things.Thing.{atom, body, tuple, aggregate}
 use Rattle.ms_things.specs.Aggregates.{IsAbout, truth_by}
 use Rattle.ms_things.specs.Completion.{parts_of}
 use Rattle.ms_things.specs.Signs.{Signed, minus, plus}
-use Rattle.ms_loops.proofs.Members.{all_back, all_front, all_unmap}
+use Rattle.ms_base.proofs.Lists.{All-front}
+use Rattle.ms_possible.proofs.Lists.{All-back, All-unmap}
 
 -- the thing has this sign in the set
 abbrev pub IsSo : (ℕ → Bool) → Signed → Type 0
@@ -50,11 +51,11 @@ module _ (set : ℕ → Bool) where
 
   pub body_from_parts : (b : Body) → All (IsSo set) (parts_of b) → IsTrue (body_holds set b)
   body_from_parts b all =
-      let front : All (IsSo set) (positive b ++ negative b) = all_front (IsSo set) (positive b ++ negative b) (map sign_of b.aggs) all in
-      let pos : All (λ a. set a ≡ true) b.pos = all_unmap (IsSo set) (λ a. plus (atom a)) b.pos (all_front (IsSo set) (positive b) (negative b) front) in
-      let neg : All (λ a. set a ≡ false) b.neg = all_unmap (IsSo set) (λ a. minus (atom a)) b.neg (all_back (IsSo set) (positive b) (negative b) front) in
+      let front : All (IsSo set) (positive b ++ negative b) = All-front (IsSo set) (positive b ++ negative b) (map sign_of b.aggs) all in
+      let pos : All (λ a. set a ≡ true) b.pos = All-unmap (IsSo set) (λ a. plus (atom a)) b.pos (All-front (IsSo set) (positive b) (negative b) front) in
+      let neg : All (λ a. set a ≡ false) b.neg = All-unmap (IsSo set) (λ a. minus (atom a)) b.neg (All-back (IsSo set) (positive b) (negative b) front) in
       let aggs : All (λ s. IsSo set (sign_of s)) b.aggs =
-      all_unmap (IsSo set) sign_of b.aggs (all_back (IsSo set) (positive b ++ negative b) (map sign_of b.aggs) all) in
+      All-unmap (IsSo set) sign_of b.aggs (All-back (IsSo set) (positive b ++ negative b) (map sign_of b.aggs) all) in
       and_from (has_all set b.pos) (has_none set b.neg && list_all (signed_holds set) b.aggs)
       (list_all-from_AllPass set b.pos pos)
       (and_from (has_none set b.neg) (list_all (signed_holds set) b.aggs)

@@ -14,12 +14,12 @@ use Rattle.ms_join.specs.Dependencies.{Reaches}
 use Rattle.ms_join.specs.Modules.{Join, IsInput, IsJoin}
 use Rattle.ms_join.specs.Possible.{IsPossible}
 use Rattle.ms_join.specs.Things.{body_holds, body_of}
+use Rattle.ms_possible.proofs.FreeSets.{possible_from_free}
 use Rattle.ms_things.specs.Completion.{has_head_in}
 use Rattle.ms_things.specs.Loops.{IsWithinComponent, supports_from_outside}
 use Rattle.ms_loops.specs.Founded.{IsFoundedModel, IsOverBase, IsUnfounded}
 use Rattle.ms_loops.proofs.Choosing.{Table, assume_table}
 use Rattle.ms_loops.proofs.Counting.{count, strictly_fewer}
-use Rattle.ms_loops.proofs.FreeSets.{has_inputs, model_from}
 use Rattle.ms_loops.proofs.Walks.{reaches_more, reaches_self, reaches_through}
 
 was_false : (b : Bool) → IsTrue (not b) → b ≡ false
@@ -129,10 +129,10 @@ module _ (j : Join) (set other : ℕ → Bool) (t : Table j.atoms (Reaches j.rul
         }))
 
 pub possible_from_founded : (j : Join) (set : ℕ → Bool) → IsJoin j → IsOverBase j set → IsFoundedModel j set → IsPossible j set
-possible_from_founded j set is over founded = record {
-  model = model_from j set set founded.rules (λ a input here. here);
-  least = λ other model a here. true_from_ne_false (other a) (λ lacks.
+possible_from_founded j set is over founded = possible_from_free j set (record {
+  model = founded.rules;
+  least = λ other keeps facts a here. true_from_ne_false (other a) (λ lacks.
       assume_table j.atoms (Reaches j.rules) (λ t.
-      false≢true (sym lacks ∙ reached j set other t is over model.rules (has_inputs j set other model) founded.founded (suc (count (t.test a) j.atoms)) a (over a here) (omega arith) here)));
+      false≢true (sym lacks ∙ reached j set other t is over keeps facts founded.founded (suc (count (t.test a) j.atoms)) a (over a here) (omega arith) here)));
   allowed = founded.constraints;
-}
+})

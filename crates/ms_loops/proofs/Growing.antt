@@ -19,7 +19,8 @@ use Rattle.ms_things.specs.Completion.Completion.{whole_body, part_of_body, no_c
 use Rattle.ms_things.specs.Numbers.{AreThings, IsMadeOf}
 use Rattle.ms_things.specs.Signs.{IsFor, IsNogoodOf, Signed, minus, plus, turned}
 use Rattle.ms_loops.proofs.Founding.{head_of, if_at}
-use Rattle.ms_loops.proofs.Members.{any_at, contains_here, contains_later, member_at, place_of}
+use Rattle.ms_base.proofs.Lists.{Contains-behind, Contains-cases, Contains-first}
+use Rattle.ms_loops.proofs.Members.{any_at, member_at, place_of}
 use Rattle.ms_loops.proofs.Unfounded.{head_below}
 
 -- ---- numbers of old things
@@ -37,9 +38,9 @@ one_number xs i k x once first then =
     elim (cases_eq i k) [
       | inl is ↦ is
       | inr differ ↦ elim (cases_lt i k) [
-          | inl less ↦ absurd (once i k x less (slice_get_within xs k x then) same)
-          | inr more ↦ absurd (once k i x (omega (arith, more, differ)) (slice_get_within xs i x first) (sym same))
-        ]
+        | inl less ↦ absurd (once i k x less (slice_get_within xs k x then) same)
+        | inr more ↦ absurd (once k i x (omega (arith, more, differ)) (slice_get_within xs i x first) (sym same))
+      ]
     ]
 
 module _ (things more : List Thing) (signs : List Signed) (nogood : Nogood) where
@@ -57,9 +58,9 @@ module _ (things more : List Thing) (signs : List Signed) (nogood : Nogood) wher
   without_more : AllPairs (λ t u. t ≢ u) (things ++ more) → All (λ s. Contains things s.thing) signs → IsNogoodOf (things ++ more) signs nogood → IsNogoodOf things signs nogood
   without_more once there is =
       let at_old : (s : Signed) → Contains signs s → (number : ℕ) → slice_get (things ++ more) number ≡ Some s.thing → slice_get things number ≡ Some s.thing =
-          λ s among number at.
-          let place = place_of things s.thing (All-contains (λ t. Contains things t.thing) signs s there among) in
-          subst (λ n. slice_get things n ≡ Some s.thing) (one_number (things ++ more) place.0 number s.thing once (get_front things more place.0 s.thing place.1) at) place.1 in
+      λ s among number at.
+      let place = place_of things s.thing (All-contains (λ t. Contains things t.thing) signs s there among) in
+      subst (λ n. slice_get things n ≡ Some s.thing) (one_number (things ++ more) place.0 number s.thing once (get_front things more place.0 s.thing place.1) at) place.1 in
       record {
         rising = is.rising;
         of_set = λ k d within.
@@ -144,18 +145,14 @@ module _ {X : Type 0} (test : X → Bool) (xs ys : List X) where
   back_alone : All (λ x. test x ≡ false) xs → filter test (xs ++ ys) ≡ filter test ys
   back_alone none = filter-append test xs ys ∙ ap (λ zs. zs ++ filter test ys) (filter_none test xs none)
 
-contains_cases : {X : Type 0} (x : X) (xs : List X) (y : X) → Contains (x ∷ xs) y → (x ≡ y) ⊎ Contains xs y
-contains_cases x xs y (zero, within, at) = inl at
-contains_cases x xs y (suc k, within, at) = inr (k, omega (arith, within), at)
-
 contains_or_not : (xs : List ℕ) (a : ℕ) → Contains xs a ⊎ (¬ Contains xs a)
 contains_or_not [] a = inr (λ (k, within, at). absurd (omega (arith, within)))
 contains_or_not (x ∷ xs) a = elim (cases_eq x a) [
-  | inl same ↦ inl (subst (Contains (x ∷ xs)) same (contains_here x xs))
+  | inl same ↦ inl (subst (Contains (x ∷ xs)) same (Contains-first x xs))
   | inr differ ↦ elim (contains_or_not xs a) [
-      | inl there ↦ inl (contains_later x a xs there)
-      | inr apart ↦ inr (λ there. elim (contains_cases x xs a there) [ | inl same ↦ differ same | inr later ↦ apart later ])
-    ]
+    | inl there ↦ inl (Contains-behind x xs a there)
+    | inr apart ↦ inr (λ there. elim (Contains-cases x xs a there) [ inl same ↦ differ same | inr later ↦ apart later ])
+  ]
 ]
 
 module _ (old new : Join) (m : GroundModule) (is : IsJoin old) (well : IsWellFormed old.atoms m) (composable : IsComposable old m) (joined : IsJoined old m new) where
@@ -183,20 +180,20 @@ module _ (old new : Join) (m : GroundModule) (is : IsJoin old) (well : IsWellFor
   output_cases a out = elim (contains_or_not m.heads a) [
     | inl head ↦ inr head
     | inr apart ↦ elim (cases_lt a old.atoms) [
-        | inl less ↦ inl (record {
-            within = less;
-            no_input = λ (k, i, within, at, same).
-                let there : Contains new.inputs i = (joined.inputs i).1 (inl ((k, within, at), λ head. apart (subst (Contains m.heads) same head))) in
-                out.no_input (any_at (λ (e : Input). e.atom ≡ a) new.inputs i there same);
-          })
-        | inr late ↦ elim (well.covered a late (subst (λ n. a < n) joined.atoms out.within)) [
-            | inl head ↦ inr head
-            | inr external ↦
-                let i : Input = record { atom = a; value = Some (declared_value m a) } in
-                let there : Contains new.inputs i = (joined.inputs i).1 (inr (late, external, apart, refl)) in
-                absurd (out.no_input (any_at (λ (e : Input). e.atom ≡ a) new.inputs i there refl))
-          ]
+      | inl less ↦ inl (record {
+        within = less;
+        no_input = λ (k, i, within, at, same).
+            let there : Contains new.inputs i = (joined.inputs i).1 (inl ((k, within, at), λ head. apart (subst (Contains m.heads) same head))) in
+            out.no_input (any_at (λ (e : Input). e.atom ≡ a) new.inputs i there same);
+      })
+      | inr late ↦ elim (well.covered a late (subst (λ n. a < n) joined.atoms out.within)) [
+        | inl head ↦ inr head
+        | inr external ↦
+            let i : Input = record { atom = a; value = Some (declared_value m a) } in
+            let there : Contains new.inputs i = (joined.inputs i).1 (inr (late, external, apart, refl)) in
+            absurd (out.no_input (any_at (λ (e : Input). e.atom ≡ a) new.inputs i there refl))
       ]
+    ]
   ]
 
   -- the rules with an output as their head
@@ -252,12 +249,12 @@ module _ (old new : Join) (m : GroundModule) (is : IsJoin old) (well : IsWellFor
 
     says_cases : (says : Completion) → OfNew says → OfOld says ⊎ OfModule says
     says_cases (whole_body b) of = thing_cases (body b) of
-    says_cases (part_of_body b part) (of, among) = elim (thing_cases (body b) of) [ | inl there ↦ inl (there, among) | inr there ↦ inr (there, among) ]
+    says_cases (part_of_body b part) (of, among) = elim (thing_cases (body b) of) [ inl there ↦ inl (there, among) | inr there ↦ inr (there, among) ]
     says_cases (no_condition t) of = thing_cases (tuple t) of
-    says_cases (condition_of_tuple t c) (of, among) = elim (thing_cases (tuple t) of) [ | inl there ↦ inl (there, among) | inr there ↦ inr (there, among) ]
+    says_cases (condition_of_tuple t c) (of, among) = elim (thing_cases (tuple t) of) [ inl there ↦ inl (there, among) | inr there ↦ inr (there, among) ]
     says_cases (unsupported a) of = output_cases a of
-    says_cases (no_head rule h) (among, kind, at) = elim (rule_cases rule among) [ | inl there ↦ inl (there, kind, at) | inr there ↦ inr (there, kind, at) ]
-    says_cases (broken rule) (among, kind) = elim (rule_cases rule among) [ | inl there ↦ inl (there, kind) | inr there ↦ inr (there, kind) ]
+    says_cases (no_head rule h) (among, kind, at) = elim (rule_cases rule among) [ inl there ↦ inl (there, kind, at) | inr there ↦ inr (there, kind, at) ]
+    says_cases (broken rule) (among, kind) = elim (rule_cases rule among) [ inl there ↦ inl (there, kind) | inr there ↦ inr (there, kind) ]
 
     old_stays : (says : Completion) → OfOld says → OfNew says × (signs_of new.rules says ≡ signs_of old.rules says)
     old_stays (whole_body b) of = (old_thing (body b) of, refl)
@@ -286,16 +283,16 @@ module _ (old new : Join) (m : GroundModule) (is : IsJoin old) (well : IsWellFor
     divided : (nogood : Nogood) → IsCompletionNogood new (things ++ more) nogood → IsCompletionNogood old things nogood ⊎ IsNewCompletion m (things ++ more) more nogood
     divided nogood n = elim (says_cases n.says n.of_join) [
       | inl of ↦ inl (record {
-          says = n.says;
-          of_join = of;
-          is = without_more things more (signs_of old.rules n.says) nogood now.once (signs_there old things are n.says of is)
-              (subst (λ (signs : List Signed). IsNogoodOf (things ++ more) signs nogood) (old_stays n.says of).1 n.is);
-        })
+        says = n.says;
+        of_join = of;
+        is = without_more things more (signs_of old.rules n.says) nogood now.once (signs_there old things are n.says of is)
+            (subst (λ (signs : List Signed). IsNogoodOf (things ++ more) signs nogood) (old_stays n.says of).1 n.is);
+      })
       | inr of ↦ inr (record {
-          says = n.says;
-          of_module = of;
-          is = subst (λ (signs : List Signed). IsNogoodOf (things ++ more) signs nogood) (new_stays n.says of).1 n.is;
-        })
+        says = n.says;
+        of_module = of;
+        is = subst (λ (signs : List Signed). IsNogoodOf (things ++ more) signs nogood) (new_stays n.says of).1 n.is;
+      })
     ]
 
     of_old : (nogood : Nogood) → IsCompletionNogood old things nogood → IsCompletionNogood new (things ++ more) nogood

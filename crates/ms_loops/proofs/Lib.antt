@@ -1,5 +1,4 @@
 mod Walks
-mod FreeSets
 mod Choosing
 mod Counting
 mod Unfounded

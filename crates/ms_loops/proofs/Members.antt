@@ -16,18 +16,6 @@ module _ {X : Type 0} (P : X → Type 0) where
   pub any_later : (x : X) (xs : List X) → Any P xs → Any P (x ∷ xs)
   any_later x xs (k, y, within, at, is) = (suc k, y, omega (arith, within), at, is)
 
-  pub all_front : (xs ys : List X) → All P (xs ++ ys) → All P xs
-  all_front [] ys all = All-nil P
-  all_front (x ∷ xs) ys all = All-cons P x xs (All-head P x (xs ++ ys) all) (all_front xs ys (All-tail P x (xs ++ ys) all))
-
-  pub all_back : (xs ys : List X) → All P (xs ++ ys) → All P ys
-  all_back [] ys all = all
-  all_back (x ∷ xs) ys all = all_back xs ys (All-tail P x (xs ++ ys) all)
-
-  pub all_unmap : {Y : Type 0} (f : Y → X) (ys : List Y) → All P (map f ys) → All (λ y. P (f y)) ys
-  all_unmap f [] all = All-nil (λ y. P (f y))
-  all_unmap f (y ∷ ys) all = All-cons (λ z. P (f z)) y ys (All-head P (f y) (map f ys) all) (all_unmap f ys (All-tail P (f y) (map f ys) all))
-
   -- what holds of each that passes a test
   pub all_passing : (test : X → Bool) (xs : List X) → All P (filter test xs) → All (λ x. IsTrue (test x) → P x) xs
   all_passing test [] all = All-nil (λ x. IsTrue (test x) → P x)
@@ -50,12 +38,6 @@ module _ {X : Type 0} (P : X → Type 0) where
             (All-cons P x (filter test xs) (All-head (λ y. IsTrue (test y) → P y) x xs all passes) rest)
         | inr fails ↦ subst (All P) (sym (cond-false (test x) (x ∷ filter test xs) (filter test xs) fails)) rest
       ]
-
-pub contains_here : {X : Type 0} (x : X) (xs : List X) → Contains (x ∷ xs) x
-contains_here x xs = (zero, omega arith, refl)
-
-pub contains_later : {X : Type 0} (x y : X) (xs : List X) → Contains xs y → Contains (x ∷ xs) y
-contains_later x y xs (k, within, at) = (suc k, omega (arith, within), at)
 
 -- the place of a member
 pub place_of : {X : Type 0} (xs : List X) (x : X) → Contains xs x → (k : ℕ) × (slice_get xs k ≡ Some x)

@@ -21,7 +21,8 @@ use Rattle.ms_things.specs.Numbers.{AreThings, ext, known_truth}
 use Rattle.ms_things.specs.Signs.{Signed, minus, plus, turned}
 use Rattle.ms_loops.specs.Founded.{ContainsNone, IsFoundedModel, IsUnfounded}
 use Rattle.ms_loops.proofs.Extended.{IsSo, body_from_parts, parts_from_body, truth_is}
-use Rattle.ms_loops.proofs.Members.{any_at, all_kept, all_passing, all_unmap, place_of}
+use Rattle.ms_possible.proofs.Lists.{All-unmap}
+use Rattle.ms_loops.proofs.Members.{any_at, all_kept, all_passing, place_of}
 use Rattle.ms_loops.proofs.Founding.{if_at}
 use Rattle.ms_loops.proofs.Unfounded.{head_below}
 use Rattle.ms_loops.proofs.Walks.{reaches_self}
@@ -45,7 +46,7 @@ module _ (set : ℕ → Bool) where
   IsFalse rule = body_holds set (body_of rule) ≡ false
 
   bodies_false : (test : GroundRule → Bool) (rules : List GroundRule) → All (IsSo set) (false_bodies test rules) → All (λ rule. IsTrue (test rule) → IsFalse rule) rules
-  bodies_false test rules all = all_passing IsFalse test rules (all_unmap (IsSo set) (λ rule. minus (body (body_of rule))) (filter test rules) all)
+  bodies_false test rules all = all_passing IsFalse test rules (All-unmap (IsSo set) (λ rule. minus (body (body_of rule))) (filter test rules) all)
 
   from_bodies : (test : GroundRule → Bool) (rules : List GroundRule) → All (λ rule. IsTrue (test rule) → IsFalse rule) rules → All (IsSo set) (false_bodies test rules)
   from_bodies test rules all = All-map (IsSo set) (λ rule. minus (body (body_of rule))) (filter test rules) (all_kept IsFalse test rules all)
@@ -84,7 +85,7 @@ module _ (j : Join) (set : ℕ → Bool) (is : IsFoundedModel j set) where
       turned_differs part.truth (sym (All-contains (IsSo set) (parts_of b) part (parts_from_body set b holds) among) ∙ fails)
   none_of_completion (no_condition t) of all =
       let none : All (λ c. body_holds set c ≡ false) t.conditions =
-      all_unmap (IsSo set) (λ c. minus (body c)) t.conditions (All-tail (IsSo set) (plus (tuple t)) (map (λ c. minus (body c)) t.conditions) all) in
+      All-unmap (IsSo set) (λ c. minus (body c)) t.conditions (All-tail (IsSo set) (plus (tuple t)) (map (λ c. minus (body c)) t.conditions) all) in
       both (list_any (body_holds set) t.conditions)
       (All-head (IsSo set) (plus (tuple t)) (map (λ c. minus (body c)) t.conditions) all)
       (list_any_none (body_holds set) t.conditions none)
@@ -144,7 +145,7 @@ module _ (j : Join) (things : List Thing) (set : ℕ → Bool) (is : IsJoin j) (
   all_bodies test all = All-map (Holds things (ext set things)) (λ rule. minus (body (body_of rule))) (filter test j.rules)
       (λ k d within. has_sign (minus (body (body_of (get_or (filter test j.rules) k d))))
       (All-filter test (λ rule. IsThing j.atoms j.rules (body (body_of rule))) j.rules (λ i e inside. body_is_thing (get_or j.rules i e) (Contains-get_or j.rules i e inside)) k d within)
-      (all_unmap (IsSo set) (λ rule. minus (body (body_of rule))) (filter test j.rules) all k d within))
+      (All-unmap (IsSo set) (λ rule. minus (body (body_of rule))) (filter test j.rules) all k d within))
 
   module _ (none : ContainsNone j things (ext set things)) where
     -- what is said of the join, and holds in the set

@@ -13,17 +13,12 @@ use Rattle.ms_join.specs.AnswerSets.{HasHead, Keeps, has_all, has_none, side_hol
 use Rattle.ms_join.specs.Modules.{Join, IsInput, IsJoin}
 use Rattle.ms_join.specs.Possible.{IsPossible, cut}
 use Rattle.ms_join.specs.Things.{body_holds, body_of}
+use Rattle.ms_possible.proofs.Cutting.{all_more, from_cut, if_some, in_cut}
+use Rattle.ms_possible.proofs.FreeSets.{IsFreeSet, free_from_possible}
+use Rattle.ms_possible.proofs.Inputs.{input_of}
 use Rattle.ms_things.specs.Completion.{has_head_in}
 use Rattle.ms_things.specs.Loops.{supports_from_outside}
 use Rattle.ms_loops.specs.Founded.{IsFoundedModel, IsOverBase, IsUnfounded}
-use Rattle.ms_loops.proofs.FreeSets.{model_from}
-
-pub all_more : (f g : ℕ → Bool) (atoms : List ℕ) → ((a : ℕ) → IsTrue (f a) → IsTrue (g a)) → IsTrue (list_all f atoms) → IsTrue (list_all g atoms)
-all_more f g atoms more holds = list_all-from_AllPass g atoms (λ k d within. more (get_or atoms k d) (AllPass-from_list_all f atoms holds k d within))
-
-pub if_some : (P Q : ℕ → Type 0) (head : Option ℕ) → ((h : ℕ) → head ≡ Some h → P h → Q h) → IfSome head P → IfSome head Q
-if_some P Q None step holds = tt
-if_some P Q (Some h) step holds = step h refl holds
 
 -- the set without the atoms of the loop
 abbrev without : (ℕ → Bool) → (ℕ → Bool) → ℕ → Bool
@@ -41,9 +36,9 @@ module _ (set loop : ℕ → Bool) where
       → IsTrue (side_holds set rule) → IsTrue (has_all (without loop set) rule.pos) → IsTrue (set h) → IsTrue (without loop set h)
   head_left rule h at unsupported side all here = and_from (set h) (not (loop h)) here (not_from_false (loop h) (false_from_ne_true (loop h) (λ inside.
       let outside : IsTrue (supports_from_outside loop rule) =
-      and_from (has_head_in loop rule.head) (has_none loop rule.pos) (ap (has_head_in loop) at ∙ inside) (all_more (without loop set) (λ a. not (loop a)) rule.pos not_of_loop all) in
+      and_from (has_head_in loop rule.head) (has_none loop rule.pos) (ap (has_head_in loop) at ∙ inside) (all_more (without loop set) (λ a. not (loop a)) rule.pos (λ k d within. not_of_loop (get_or rule.pos k d)) all) in
       let body : IsTrue (body_holds set (body_of rule)) =
-      and_from (has_all set rule.pos) (side_holds set rule) (all_more (without loop set) set rule.pos of_set all) side in
+      and_from (has_all set rule.pos) (side_holds set rule) (all_more (without loop set) set rule.pos (λ k d within. of_set (get_or rule.pos k d)) all) side in
       false≢true (sym (unsupported outside) ∙ body))))
 
   rule_left : (kind : GroundKind) (rule : GroundRule) → (IsTrue (supports_from_outside loop rule) → body_holds set (body_of rule) ≡ false)
@@ -51,7 +46,7 @@ module _ (set loop : ℕ → Bool) where
   rule_left Normal rule unsupported keeps = λ side all.
       if_some (λ h. IsTrue (set h)) (λ h. IsTrue (without loop set h)) rule.head
       (λ h at here. head_left rule h at unsupported side all here)
-      (keeps side (all_more (without loop set) set rule.pos of_set all))
+      (keeps side (all_more (without loop set) set rule.pos (λ k d within. of_set (get_or rule.pos k d)) all))
   rule_left Choice rule unsupported keeps =
       if_some
       (λ h. IsTrue (set h) → IsTrue (side_holds set rule) → IsTrue (has_all set rule.pos) → IsTrue (set h))
@@ -63,11 +58,11 @@ module _ (set loop : ℕ → Bool) where
 
 pub nothing_unfounded : (j : Join) (set loop : ℕ → Bool) → IsPossible j set → ¬ IsUnfounded j set loop
 nothing_unfounded j set loop possible is =
+    let free : IsFreeSet j.rules (IsInput j) set = free_from_possible j set possible in
     let left : IsTrue (without loop set is.member) =
-    possible.least (without loop set)
-    (model_from j set (without loop set)
-    (λ k d within. rule_left set loop (get_or j.rules k d).kind (get_or j.rules k d) (is.unsupported k d within) (possible.model.rules k d within))
-    (λ a input here. and_from (set a) (not (loop a)) here (not_from_false (loop a) (false_from_ne_true (loop a) (λ inside. (is.among.outputs a inside).no_input input)))))
+    free.least (without loop set)
+    (λ k d within. rule_left set loop (get_or j.rules k d).kind (get_or j.rules k d) (is.unsupported k d within) (free.model k d within))
+    (λ a input here. and_from (set a) (not (loop a)) here (not_from_false (loop a) (false_from_ne_true (loop a) (λ inside. (is.among.outputs a inside).no_input input))))
     is.member is.true_there in
     false≢true (sym (not_from_true (loop is.member) is.has) ∙ not_of_loop set loop is.member left)
 
@@ -91,27 +86,27 @@ head_below n Constraint head has h at = cc
 rule_below : (n : ℕ) (set : ℕ → Bool) (kind : GroundKind) (rule : GroundRule) → ((h : ℕ) → rule.head ≡ Some h → h < n) → Keeps set set kind rule → Keeps set (cut n set) kind rule
 rule_below n set Normal rule below keeps = λ side all.
     if_some (λ h. IsTrue (set h)) (λ h. IsTrue (cut n set h)) rule.head
-    (λ h at here. and_from (nat_lt h n) (set h) (lt-ltb h n (below h at)) here)
-    (keeps side (all_more (cut n set) set rule.pos (λ a here. (and_parts (nat_lt a n) (set a) here).1) all))
+    (λ h at here. in_cut n set h (below h at) here)
+    (keeps side (all_more (cut n set) set rule.pos (λ k d within here. (from_cut n set (get_or rule.pos k d) here).1) all))
 rule_below n set Choice rule below keeps =
     if_some
     (λ h. IsTrue (set h) → IsTrue (side_holds set rule) → IsTrue (has_all set rule.pos) → IsTrue (set h))
     (λ h. IsTrue (set h) → IsTrue (side_holds set rule) → IsTrue (has_all (cut n set) rule.pos) → IsTrue (cut n set h))
     rule.head
-    (λ h at kept here side all. and_from (nat_lt h n) (set h) (lt-ltb h n (below h at)) here)
+    (λ h at kept here side all. in_cut n set h (below h at) here)
     keeps
 rule_below n set Constraint rule below keeps = tt
 
 input_below : (j : Join) → All (λ i. i.atom < j.atoms) j.inputs → (a : ℕ) → IsInput j a → a < j.atoms
-input_below j below a (k, i, within, at, is) = subst (λ b. b < j.atoms) is (All-contains (λ (i : Input). i.atom < j.atoms) j.inputs i below (k, within, at))
+input_below j below a input = let of = input_of j a input in subst (λ b. b < j.atoms) of.atom (All-contains (λ (i : Input). i.atom < j.atoms) j.inputs of.input below of.there)
 
 pub possible_over_base : (j : Join) (set : ℕ → Bool) → IsJoin j → IsPossible j set → IsOverBase j set
 possible_over_base j set is possible a here =
+    let free : IsFreeSet j.rules (IsInput j) set = free_from_possible j set possible in
     let there : IsTrue (cut j.atoms set a) =
-    possible.least (cut j.atoms set)
-    (model_from j set (cut j.atoms set)
+    free.least (cut j.atoms set)
     (λ k d within. rule_below j.atoms set (get_or j.rules k d).kind (get_or j.rules k d)
-    (head_below j.atoms (get_or j.rules k d).kind (get_or j.rules k d).head (is.over.rules k d within).head) (possible.model.rules k d within))
-    (λ b input chosen. and_from (nat_lt b j.atoms) (set b) (lt-ltb b j.atoms (input_below j is.over.inputs b input)) chosen))
+    (head_below j.atoms (get_or j.rules k d).kind (get_or j.rules k d).head (is.over.rules k d within).head) (free.model k d within))
+    (λ b input chosen. in_cut j.atoms set b (input_below j is.over.inputs b input) chosen)
     a here in
-    ltb-true a j.atoms (and_parts (nat_lt a j.atoms) (set a) there).0
+    (from_cut j.atoms set a there).0

@@ -9,7 +9,8 @@ use Rattle.ms_lits.specs.declared.lit.Lit.{Lit}
 use Rattle.ms_lits.specs.Literals.{Nogood}
 use Rattle.ms_join.specs.Things.{Thing}
 use Rattle.ms_things.specs.Signs.{IsContainedIn, IsFor, IsNogoodOf, Signed}
-use Rattle.ms_loops.proofs.Members.{any_at, any_here, any_later, contains_here, contains_later, pairs_head, pairs_nil, pairs_tail}
+use Rattle.ms_base.proofs.Lists.{Contains-behind, Contains-first}
+use Rattle.ms_loops.proofs.Members.{any_at, any_here, any_later, pairs_head, pairs_nil, pairs_tail}
 
 abbrev Rises : Lit → Lit → Type 0
 Rises lit next = lit.var < next.var
@@ -35,7 +36,7 @@ inserted truths lit [] holds contained rising = record {
   rising = AllPairs-cons Rises lit [] (All-nil (Rises lit)) (pairs_nil Rises);
   among = All-cons (λ l. (l ≡ lit) ⊎ Contains [] l) lit [] (inl refl) (All-nil (λ l. (l ≡ lit) ⊎ Contains [] l));
   keeps = All-nil (Contains (lit ∷ []));
-  has = contains_here lit [];
+  has = Contains-first lit [];
 }
 inserted truths lit (next ∷ rest) holds contained rising =
     let above : All (Rises next) rest = pairs_head Rises next rest rising in
@@ -45,8 +46,8 @@ inserted truths lit (next ∷ rest) holds contained rising =
         rising = AllPairs-cons Rises lit (next ∷ rest)
             (All-cons (Rises lit) next rest less (All-weaker (Rises next) (Rises lit) (λ l more. omega (arith, less, more)) rest above)) rising;
         among = All-cons (λ l. (l ≡ lit) ⊎ Contains (next ∷ rest) l) lit (next ∷ rest) (inl refl) (λ k d within. inr (All-contains_itself (next ∷ rest) k d within));
-        keeps = λ k d within. contains_later lit (get_or (next ∷ rest) k d) (next ∷ rest) (All-contains_itself (next ∷ rest) k d within);
-        has = contains_here lit (next ∷ rest);
+        keeps = λ k d within. Contains-behind lit (next ∷ rest) (get_or (next ∷ rest) k d) (All-contains_itself (next ∷ rest) k d within);
+        has = Contains-first lit (next ∷ rest);
       }
       | inr least ↦ elim (cases_eq lit.var next.var) [
         | inl same ↦
@@ -56,7 +57,7 @@ inserted truths lit (next ∷ rest) holds contained rising =
               rising = rising;
               among = λ k d within. inr (All-contains_itself (next ∷ rest) k d within);
               keeps = All-contains_itself (next ∷ rest);
-              has = subst (Contains (next ∷ rest)) (sym is) (contains_here next rest);
+              has = subst (Contains (next ∷ rest)) (sym is) (Contains-first next rest);
             }
         | inr differ ↦
             let more : next.var < lit.var = omega (arith, least, differ) in
@@ -69,14 +70,14 @@ inserted truths lit (next ∷ rest) holds contained rising =
                     | inr old ↦ All-contains (Rises next) rest (get_or i.new k d) above old
                   ])
                   i.rising;
-              among = All-cons (λ l. (l ≡ lit) ⊎ Contains (next ∷ rest) l) next i.new (inr (contains_here next rest))
+              among = All-cons (λ l. (l ≡ lit) ⊎ Contains (next ∷ rest) l) next i.new (inr (Contains-first next rest))
                   (λ k d within. elim (i.among k d within) [
                     | inl is ↦ inl is
-                    | inr old ↦ inr (contains_later next (get_or i.new k d) rest old)
+                    | inr old ↦ inr (Contains-behind next rest (get_or i.new k d) old)
                   ]);
-              keeps = All-cons (Contains (next ∷ i.new)) next rest (contains_here next i.new)
-                  (λ k d within. contains_later next (get_or rest k d) i.new (i.keeps k d within));
-              has = contains_later next lit i.new i.has;
+              keeps = All-cons (Contains (next ∷ i.new)) next rest (Contains-first next i.new)
+                  (λ k d within. Contains-behind next i.new (get_or rest k d) (i.keeps k d within));
+              has = Contains-behind next i.new lit i.has;
             }
       ]
     ]

@@ -114,12 +114,7 @@ impl Propagate for Plain {
         self.attached.get(key).copied().unwrap_or(false)
     }
 
-    fn attach(
-        &mut self,
-        store: &Nogoods,
-        _trail: &Trail,
-        key: usize,
-    ) -> Result<(), OutOfMemory> {
+    fn attach(&mut self, store: &Nogoods, _trail: &Trail, key: usize) -> Result<(), OutOfMemory> {
         if key >= self.attached.len() {
             self.attached.resize(store.end(), false)?;
         }
