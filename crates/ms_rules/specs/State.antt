@@ -1,7 +1,4 @@
 -- The state of a propagation, which marks the least model of a reduct atom by atom.
--- Source: the algorithms of Dowling and Gallier, "Linear-time algorithms for testing the satisfiability of propositional
--- Horn formulae" (1984); that a rule waits for one of its atoms, rather than count those that are left, is as for the
--- watched literals of Moskewicz, Madigan, Zhao, Zhang and Malik, "Chaff: engineering an efficient SAT solver" (2001).
 use Rattle.std.specs.Prelude.{ℕ, ◌+◌, Bool, true, List, slice_index, slice_set}
 
 -- For each atom whether it is marked, and the first of the rules that wait for it. For each rule how many of its positive
