@@ -39,7 +39,7 @@ module _ {old_table new_table : List Tree} (keeps : Keeps old_table new_table) w
       rw (first, rest)
 
   pub still_base : (names : List ℕ) → IsBaseIn old_table names → IsBaseIn new_table names
-  still_base names base k d within = let low = base k d within in omega (arith, keeps.longer)
+  still_base names base = record { named = λ k d within. let low = base.named k d within in omega (arith, keeps.longer) }
 
 -- where no atom of the base is large
 small_terms : (table : List Tree) (names : List ℕ) → (Any (λ n. most_symbols < tree_size (term_at table n)) names → ⊥) → All (λ t. tree_size t ≤ most_symbols) (map (term_at table) names)
@@ -65,7 +65,7 @@ module _ {rules : List CoreRule} {old_table new_table : List Tree} {list : List 
   large_atom : Any (λ n. most_symbols < tree_size (term_at new_table n)) old → HasLargeAtom old_terms rules
   large_atom (k, n, within, at, large) =
       let there : Contains (map (term_at new_table) old) (term_at new_table n) = Contains-map (term_at new_table) old n (k, within, at) in
-      (term_at new_table n, inl (subst (λ ts. Contains ts (term_at new_table n)) (same_terms are.keeps old base) there), large)
+      (term_at new_table n, inl (subst (λ ts. Contains ts (term_at new_table n)) (same_terms are.keeps old base.named) there), large)
 
   -- a large head
   large_head : HasLargeHead new_table list → HasLargeAtom old_terms rules
@@ -80,7 +80,7 @@ module _ {rules : List CoreRule} {old_table new_table : List Tree} {list : List 
     small : (t : Tree) → IsKnownBy old_terms (all_said rules) t → tree_size t ≤ most_symbols
     small t known =
         let smalls = small_terms new_table old (λ large. none (inl large)) in
-        small_known new_table list old_terms (subst (λ ts. All (λ t. tree_size t ≤ most_symbols) ts) (same_terms are.keeps old base) smalls) (λ large. none (inr large)) t (subst (λ said. IsKnownBy old_terms said t) (sym are.are.say) known)
+        small_known new_table list old_terms (subst (λ ts. All (λ t. tree_size t ≤ most_symbols) ts) (same_terms are.keeps old base.named) smalls) (λ large. none (inr large)) t (subst (λ said. IsKnownBy old_terms said t) (sym are.are.say) known)
 
     count_is : length (all_said rules) ≤ most_copies
     count_is = let e : length (map (said_by new_table) list) ≡ length (all_said rules) = ap length are.are.say in omega (arith, length-map list (said_by new_table), are.are.few)
@@ -96,14 +96,14 @@ module _ {rules : List CoreRule} {old_table new_table : List Tree} {list : List 
     is_ground {new} {m} grown =
         let by_names : IsModuleBy old_terms (all_said rules) (map (term_at new_table) m.names) m =
         subst (λ said. IsModuleBy old_terms said (map (term_at new_table) m.names) m) are.are.say
-        (subst (λ ts. IsModuleBy ts (map (said_by new_table) list) (map (term_at new_table) m.names) m) (same_terms are.keeps old base) grown.is) in
+        (subst (λ ts. IsModuleBy ts (map (said_by new_table) list) (map (term_at new_table) m.names) m) (same_terms are.keeps old base.named) grown.is) in
         record {
           keeps = are.keeps;
           fits = fits;
           is = module_by old_terms rules plain (map (term_at new_table) m.names) m by_names;
           grown = grown.base;
           well_formed = grown.well_formed;
-          base = grown.named;
+          base = record { named = grown.named };
         }
 
 -- what is answered where there are no instances

@@ -15,9 +15,9 @@ use Rattle.ms_ctxground.specs.declared.fault.GroundFault.TheVariants.{Later, Too
 abbrev pub HasAggregates : List CoreRule → Type 0
 HasAggregates rules = Any (λ rule. rule.aggs ≢ []) rules
 
--- the table has names for the atoms of a base
-abbrev pub IsBaseIn : List Tree → List ℕ → Type 0
-IsBaseIn table base = All (λ n. n < length table) base
+-- The atoms of a base are named by the table.
+pub record IsBaseIn (table : List Tree) (base : List ℕ) : Type 0 where
+  pub named : All (λ n. n < length table) base
 
 -- The ground module of rules over the old base. The names of the old table stay, and the new base is the old one and then
 -- the new atoms.

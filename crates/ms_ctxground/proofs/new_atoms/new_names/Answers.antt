@@ -2,8 +2,8 @@ use Rattle.std.proofs.Common.{◌<◌, length, arith}
 use Rattle.ms_ctxground.proofs.Added.{All-added, IsNewOf-from_added}
 use Rattle.ms_ctxground.proofs.new_atoms.new_names.Goals as goal
 
-pub in_term_order-requires-clause-below : goal.in_term_order-requires-clause-below
-in_term_order-requires-clause-below c =
+pub in_term_order-requires : goal.in_term_order-requires
+in_term_order-requires c =
     let size = length c.args.terms.now in
     let none = c.new-names.ensures.items in
     All-added (λ n. n < size) c.in_ok-add_unknown-2.ensures

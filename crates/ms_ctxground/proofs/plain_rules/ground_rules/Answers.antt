@@ -7,7 +7,7 @@ pub returns-in_err-instances : goal.returns-in_err-instances
 returns-in_err-instances c = answer_from c.args.rules.now c.args.terms.now c.instances.new.terms c.args.base.now c.from_residual.result c.in_err-instances.field-0.0 c.from_residual.ensures.1 c.requires.plain c.in_err-instances.ensures.err
 
 pub has_large-requires-clause-base : goal.has_large-requires-clause-base
-has_large-requires-clause-base c = still_base c.in_ok-instances.ensures.ok.keeps c.args.base.now c.requires.base
+has_large-requires-clause-base c = (still_base c.in_ok-instances.ensures.ok.keeps c.args.base.now c.requires.base).named
 
 pub returns-then-has_large : goal.returns-then-has_large
 returns-then-has_large c =
