@@ -91,31 +91,44 @@ fn rule_of(alloc: Global, row: Row) -> Result<GroundRule, OutOfMemory>
     })
 }
 
-fn rules_of(alloc: Global, rows: &[Row]) -> Result<Seq<GroundRule>, OutOfMemory>
-    ensures { IfOk result (All (IsRuleOver 4)) }
-{
-    let mut rules = Seq::new(alloc);
-    for row in rows {
-        rules.push(rule_of(alloc, *row)?)?;
-    }
-    Ok(rules)
-}
-
 /// The first atoms as inputs, with these values.
 fn inputs_of(alloc: Global, values: &[Option<bool>]) -> Result<Inputs, OutOfMemory>
     ensures { IfOk result (All (λ i. i.atom < 4)) }
 {
     let mut inputs = Seq::new(alloc);
-    for (number, value) in (0..4).zip(values) {
+    for (number, value) in values.iter().enumerate() {
         inputs.push(Input {
-            atom: AtomId(number),
+            atom: AtomId((number % 4) as u32),
             value: *value,
         })?;
     }
     Ok(inputs)
 }
 
-/// Asks both tests about each set. `wanted` has those that are answer sets.
+fn join_of(alloc: Global, rows: &[Row], values: &[Option<bool>]) -> Result<Rules, OutOfMemory>
+    ensures { IfOk result (AreRulesOver 4) }
+{
+    let mut rules = Seq::new(alloc);
+    for row in rows {
+        rules.push(rule_of(alloc, *row)?)?;
+    }
+    let inputs = inputs_of(alloc, values)?;
+    Ok(Rules { rules, inputs })
+}
+
+/// Whether the set is an answer set, by both tests.
+fn answers(alloc: Global, join: &Rules, bits: u8) -> Result<(bool, bool), OutOfMemory>
+    requires { AreRulesOver 4 join.now }
+{
+    let set = atoms_of(alloc, bits)?;
+    let mut scratch = Scratch::new(alloc, 4)?;
+    let plain = is_answer(join, &set, &mut scratch);
+    let mut room = RuleScratch::new(alloc, 4, join.rules.len())?;
+    let linear = is_answer_by(join, &set, &mut room);
+    Ok((plain, linear))
+}
+
+/// Asks about each set. `wanted` has those that are answer sets.
 fn check_all_sets(
     rt: &impl Abort,
     alloc: Global,
@@ -124,24 +137,12 @@ fn check_all_sets(
     values: &[Option<bool>],
     wanted: &[u8],
 ) -> Result<(), Fail> {
-    let rules = rules_of(alloc, rows)?;
-    let inputs = inputs_of(alloc, values)?;
-    let join = Rules { rules, inputs };
-    let mut plain = Scratch::new(alloc, 4)?;
-    let mut linear = RuleScratch::new(alloc, 4, join.rules.len())?;
+    let join = join_of(alloc, rows, values)?;
     for bits in 0..16u8 {
-        let set = atoms_of(alloc, bits)?;
         let wants = wanted.contains(&bits);
-        assert_eq!(rt;
-            is_answer(&join, &set, &mut plain),
-            wants,
-            "{bits} by {text}"
-        );
-        assert_eq!(rt;
-            is_answer_by(&join, &set, &mut linear),
-            wants,
-            "{bits} by propagation by {text}"
-        );
+        let (plain, linear) = answers(alloc, &join, bits)?;
+        assert_eq!(rt; plain, wants, "{bits} by {text}");
+        assert_eq!(rt; linear, wants, "{bits} by propagation by {text}");
     }
     Ok(())
 }
@@ -156,24 +157,24 @@ fn rules_with_long_bodies(rt: HostRuntime) -> Result<(), Fail> {
         &[
             choice(0, 0, 0),
             choice(1, 0, 0),
-            normal(2, A + B, 0),
-            normal(3, A + C, 0),
+            normal(2, A | B, 0),
+            normal(3, A | C, 0),
         ],
         &[],
-        &[0, A, B, A + B + C + D],
+        &[0, A, B, A | B | C | D],
     )?;
     check_all_sets(
         &rt,
         alloc,
         "d :- a, b, c. c :- a, b. b :- a. a.",
         &[
-            normal(3, A + B + C, 0),
-            normal(2, A + B, 0),
+            normal(3, A | B | C, 0),
+            normal(2, A | B, 0),
             normal(1, A, 0),
             normal(0, 0, 0),
         ],
         &[],
-        &[A + B + C + D],
+        &[A | B | C | D],
     )?;
     check_all_sets(
         &rt,
@@ -183,12 +184,12 @@ fn rules_with_long_bodies(rt: HostRuntime) -> Result<(), Fail> {
             choice(0, 0, 0),
             choice(1, 0, 0),
             choice(2, 0, 0),
-            constraint(A + B, 0),
-            constraint(0, A + B + C),
-            normal(3, B + C, 0),
+            constraint(A | B, 0),
+            constraint(0, A | B | C),
+            normal(3, B | C, 0),
         ],
         &[],
-        &[A, B, C, A + C, B + C + D],
+        &[A, B, C, A | C, B | C | D],
     )
 }
 
@@ -204,10 +205,10 @@ fn loops(rt: HostRuntime) -> Result<(), Fail> {
             normal(1, A, 0),
             normal(0, C, 0),
             choice(2, 0, 0),
-            normal(3, A + B + C, 0),
+            normal(3, A | B | C, 0),
         ],
         &[],
-        &[0, A + B + C + D],
+        &[0, A | B | C | D],
     )?;
     check_all_sets(
         &rt,
@@ -215,12 +216,12 @@ fn loops(rt: HostRuntime) -> Result<(), Fail> {
         "{d}. a :- b, d. b :- a, d. c :- not a.",
         &[
             choice(3, 0, 0),
-            normal(0, B + D, 0),
-            normal(1, A + D, 0),
+            normal(0, B | D, 0),
+            normal(1, A | D, 0),
             normal(2, 0, A),
         ],
         &[],
-        &[C, C + D],
+        &[C, C | D],
     )?;
     check_all_sets(
         &rt,
@@ -230,10 +231,10 @@ fn loops(rt: HostRuntime) -> Result<(), Fail> {
             normal(0, 0, B),
             normal(1, 0, A),
             choice(3, A, 0),
-            normal(2, A + D, 0),
+            normal(2, A | D, 0),
         ],
         &[],
-        &[A, A + C + D, B],
+        &[A, A | C | D, B],
     )
 }
 
@@ -244,8 +245,8 @@ fn inputs(rt: HostRuntime) -> Result<(), Fail> {
         &rt,
         alloc,
         "d :- a, b. d :- c. with a true, b free, c false",
-        &[normal(3, A + B, 0), normal(3, C, 0)],
+        &[normal(3, A | B, 0), normal(3, C, 0)],
         &[Some(true), None, Some(false)],
-        &[A, A + B + D],
+        &[A, A | B | D],
     )
 }

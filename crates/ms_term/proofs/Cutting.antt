@@ -1,12 +1,12 @@
 -- A table that goes back to an earlier moment.
-use Rattle.std.proofs.Common.{◌≡◌, ℕ, ◌+◌, ◌<◌, ◌≤◌, min, take, drop, List, [], ◌∷◌, ◌++◌, length, get_or, refl, sym, ap, ◌∙◌, subst, arith, length-append}
+use Rattle.std.proofs.Common.{◌≡◌, ℕ, ◌+◌, ◌<◌, ◌≤◌, min, take, drop, List, [], ◌∷◌, ◌++◌, length, refl, sym, ap, ◌∙◌, subst, arith, length-append}
 use Rattle.std.proofs.lemmas.List.{take-append-drop, length-take-le, get_or-take}
 use Rattle.std.proofs.Math.Seq.{take-append_seam}
 use Rattle.ms_tree.specs.Tree.{Tree}
 use Rattle.ms_tree.specs.Size.{tree_size}
 use Rattle.ms_term.specs.declared.node.Node.{Node}
 use Rattle.ms_term.specs.Terms.{term_at, held, IsLarge, AllDifferent}
-use Rattle.ms_term.specs.Tables.{tree_of, trees_from, trees, Describes, IsTable, IsSmallFront, IsKept}
+use Rattle.ms_term.specs.Tables.{tree_of, trees_from, trees, Describes, IsSmallFront, IsKept}
 use Rattle.ms_term.proofs.NodeTables.{term_at-more, tree_of-more, ArgumentsBelow-le}
 
 trees_from-append : (ws : List (List ℕ)) (ts : List Tree) (ms ns : List Node) → trees_from ws ts (ms ++ ns) ≡ trees_from ws (trees_from ws ts ms) ns

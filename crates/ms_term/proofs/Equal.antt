@@ -1,11 +1,9 @@
 -- Nodes are equal exactly where their terms are.
-use Rattle.std.proofs.Common.{◌≡◌, ℕ, ◌<◌, Bool, true, false, ◌&&◌, List, [], ◌∷◌, length, refl, ℤ, Global, ap, nat_eq}
+use Rattle.std.proofs.Common.{◌≡◌, ℕ, Bool, true, false, ◌&&◌, List, [], ◌∷◌, length, refl, ap, nat_eq}
 use Rattle.std.specs.Cmp.Lexicographic.{pointwise}
-use Rattle.std.specs.Ordering.{int_eq}
 use Rattle.std.proofs.lemmas.Slice.Eq.{bytes_eq-Decides}
 use Rattle.std.proofs.lemmas.Bool.{and_parts}
 use Rattle.std.proofs.lemmas.Bool.Decides.{Decides-int_eq, Decides-eqb}
-use Rattle.smallvec.specs.declared.small_vec.SmallVec.{SmallVec}
 use Rattle.ms_tree.specs.Tree.{Tree, number, text}
 use Rattle.ms_term.specs.declared.node.Node.{Node}
 use Rattle.ms_term.specs.declared.node.Node.TheVariants.{Number, Text, Function}

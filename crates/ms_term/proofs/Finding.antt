@@ -1,5 +1,5 @@
 -- A look-up finds the name of its term.
-use Rattle.std.proofs.Common.{◌≡◌, ℕ, ◌<◌, ◌≤◌, Bool, true, false, ◌&&◌, ◌||◌, Option, None, Some, is_some, MatchOption, List, [], ◌∷◌, zero, suc, length, get_or, position, refl, sym, ap, ◌∙◌, arith, nat_eq}
+use Rattle.std.proofs.Common.{◌≡◌, ℕ, ◌<◌, Bool, true, false, ◌&&◌, ◌||◌, Option, None, Some, is_some, MatchOption, List, [], ◌∷◌, zero, suc, length, get_or, position, refl, sym, ap, ◌∙◌, arith, nat_eq}
 use Rattle.std.specs.Bool.{⊤}
 use Rattle.std.specs.Cmp.Lexicographic.{pointwise}
 use Rattle.std.specs.List.{list_any}

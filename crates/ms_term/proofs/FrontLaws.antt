@@ -1,5 +1,5 @@
 -- Fronts of texts that are appended piece by piece.
-use Rattle.std.proofs.Common.{◌≡◌, ℕ, List, [], ◌∷◌, ◌++◌, refl, sym, ap, ◌∙◌, append-nil, append_assoc}
+use Rattle.std.proofs.Common.{◌≡◌, ℕ, List, [], ◌++◌, sym, ap, ◌∙◌, append-nil, append_assoc}
 use Rattle.ms_term.specs.Fronts.{IsFrontOf, AppendsFront}
 
 pub front_same : (old new : List ℕ) → new ≡ old → IsFrontOf old new

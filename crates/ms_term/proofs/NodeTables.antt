@@ -1,6 +1,6 @@
 -- A table stays one when a node is added to it, when a word is, and when it is cut.
 use Rattle.ms_term.proofs.Equal.{node_eq, same-from_eq, eq-from_same}
-use Rattle.std.proofs.Common.{slice_get, Some, take}
+use Rattle.std.proofs.Common.{slice_get, Some}
 use Rattle.std.proofs.Common.{◌≡◌, ℕ, ◌+◌, ◌<◌, ◌≤◌, Bool, true, false, ◌||◌, ◌⊎◌, inl, inr, List, [], ◌∷◌, ◌++◌, length, refl, sym, ap, ◌∙◌, subst, arith, length-append, pos, get_or, zero, suc, if◌then◌else◌}
 use Rattle.std.proofs.lemmas.List.{get_or_append_left, get_or_default}
 use Rattle.std.proofs.lemmas.Bool.{cases_lt}
@@ -11,7 +11,7 @@ use Rattle.ms_tree.specs.Tree.{Tree, number, text, function, tree}
 use Rattle.ms_tree.specs.Size.{tree_size}
 use Rattle.ms_term.specs.declared.node.Node.{Node}
 use Rattle.ms_term.specs.declared.node.Node.TheVariants.{Number, Text, Function}
-use Rattle.ms_term.specs.Terms.{term_at, terms_at, held, AllBelow, AllDifferent, Names, IsLarge, most_symbols}
+use Rattle.ms_term.specs.Terms.{term_at, terms_at, held, AllBelow, AllDifferent, Names}
 use Rattle.ms_term.specs.Tables.{tree_of, trees_from, trees, ArgumentsBelow, WordBelow, node_size, Fits, Describes, IsTable, IsSmallFront, IsKept}
 use Rattle.ms_term.specs.Words.{word_at, AreOnce}
 

@@ -1,11 +1,11 @@
 -- Fronts of the text of a term after want of memory.
-use Rattle.std.proofs.Common.{◌≡◌, ℕ, ◌<◌, List, [], ◌∷◌, ◌++◌, drop, get_or, length, refl, sym, ap, ◌∙◌, append_assoc, append-nil, subst, arith}
+use Rattle.std.proofs.Common.{◌≡◌, ℕ, ◌<◌, List, [], ◌∷◌, ◌++◌, drop, get_or, length, sym, ap, ◌∙◌, append_assoc, append-nil, subst, arith}
 use Rattle.std.specs.Prelude.{Result, Ok, Err, OnErr}
 use Rattle.ms_tree.specs.Tree.{Tree}
 use Rattle.ms_tree.specs.Text.{tree_text, arguments_text, after_text, closing_text, escaped, escaped_byte}
 use Rattle.ms_term.specs.Fronts.{IsFrontOf, AppendsFront}
 use Rattle.ms_term.specs.Terms.{term_at, terms_at}
-use Rattle.ms_term.proofs.FrontLaws.{front_push, front_then, nothing, next_front}
+use Rattle.ms_term.proofs.FrontLaws.{front_push, nothing, next_front}
 
 pub on_err : {T E : Type 0} (r : Result T E) (P : Type 0) → P → OnErr r P
 on_err (Ok x) P p = tt

@@ -1,5 +1,5 @@
 -- A term as its parts, which are lent.
-use Rattle.std.specs.Prelude.{◌≡◌, ℕ, ◌<◌, List, ⊤, length}
+use Rattle.std.specs.Prelude.{◌≡◌, ℕ, List, ⊤}
 use Rattle.ms_tree.specs.Tree.{Tree, number, text, function}
 use Rattle.ms_tree.specs.Size.{tree_size}
 use Rattle.ms_term.specs.declared.shape.Shape.{Shape}

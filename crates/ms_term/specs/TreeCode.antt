@@ -1,5 +1,5 @@
 -- Ground terms as ghost values, no two as the same one: what a model asks for whose value has terms.
-use Rattle.std.specs.Prelude.{◌≡◌, ℕ, ℤ, List}
+use Rattle.std.specs.Prelude.{◌≡◌, ℕ, List}
 use base.Stored.{Gv, gnil, gnum, gcons, num, Coded, coded_ℕ, coded_ℤ, coded_list}
 use mathlib.Core.Path.{ap}
 use native.Mathlib.Omega.{arith}

@@ -1,5 +1,5 @@
 use Rattle.std.proofs.Common.{ap, sym, ◌∙◌, subst, length, ◌≤◌, take}
-use Rattle.ms_term.specs.Tables.{IsKept, trees}
+use Rattle.ms_term.specs.Tables.{trees}
 use Rattle.ms_term.proofs.Cutting.{IsCut-from}
 use Rattle.ms_term.proofs.terms.Terms.back_to.Goals as goal
 

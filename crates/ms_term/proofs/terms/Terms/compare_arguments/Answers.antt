@@ -1,6 +1,4 @@
-use Rattle.std.proofs.Common.{◌≡◌, ◌<◌, true, false, not, length, eqb, sym, ap, ◌∙◌, arith}
-use Rattle.std.proofs.lemmas.Bool.Decides.{Decides-eqb}
-use Rattle.ms_term.specs.Terms.{AllBelow}
+use Rattle.std.proofs.Common.{length, sym, arith}
 use Rattle.ms_term.proofs.Orders.{both_passed, both_differ, AllBelow-first, AllBelow-rest, tail_is, different_names, same_names, rests_equally_long}
 use Rattle.ms_term.proofs.terms.Terms.compare_arguments.Goals as goal
 

@@ -1,4 +1,4 @@
-use Rattle.std.proofs.Common.{◌≡◌, ℕ, ◌<◌, length}
+use Rattle.std.proofs.Common.{◌≡◌, ℕ, length}
 use Rattle.ms_tree.specs.Order.{compare_all}
 use Rattle.ms_term.specs.Terms.{terms_at, AllBelow, AllDifferent}
 use Rattle.ms_term.proofs.terms.Terms.compare_arguments.Given as goal

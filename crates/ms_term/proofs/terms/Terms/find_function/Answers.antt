@@ -1,10 +1,7 @@
-use Rattle.std.proofs.Common.{subst, sym, ap, ◌∙◌, ◌+◌, refl, length, List}
-use Rattle.std.specs.Prelude.{MatchOption}
-use Rattle.ms_tree.specs.Tree.{Tree, function}
+use Rattle.std.proofs.Common.{subst, sym, ap, ◌∙◌, ◌+◌, length}
 use Rattle.ms_tree.specs.Size.{sizes}
 use Rattle.ms_term.specs.declared.wanted.Wanted.TheVariants.{Function}
-use Rattle.ms_term.specs.Terms.{HasNo, IsNameOf, AllBelow, terms_at, held}
-use Rattle.ms_term.specs.Tables.{trees}
+use Rattle.ms_term.specs.Terms.{AllBelow, terms_at, held}
 use Rattle.ms_term.proofs.Finding.{looked_up, no_function}
 use Rattle.ms_term.proofs.terms.Terms.find_function.Goals as goal
 

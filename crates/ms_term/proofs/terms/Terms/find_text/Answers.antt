@@ -1,9 +1,5 @@
-use Rattle.std.proofs.Common.{subst, sym, ap, refl, List, None}
-use Rattle.std.specs.Prelude.{MatchOption}
-use Rattle.ms_tree.specs.Tree.{Tree, text}
+use Rattle.std.proofs.Common.{refl}
 use Rattle.ms_term.specs.declared.wanted.Wanted.TheVariants.{Text}
-use Rattle.ms_term.specs.Tables.{trees}
-use Rattle.ms_term.specs.Terms.{HasNo, IsNameOf}
 use Rattle.ms_term.proofs.Finding.{looked_up, no_text}
 use Rattle.ms_term.proofs.terms.Terms.find_text.Goals as goal
 

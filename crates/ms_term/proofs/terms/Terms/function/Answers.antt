@@ -1,9 +1,6 @@
-use Rattle.std.proofs.Common.{◌≡◌, ◌+◌, sym, ap, ◌∙◌, subst, refl, List, length}
-use Rattle.std.specs.Prelude.{OnErr, IfOk}
-use Rattle.ms_tree.specs.Tree.{Tree, function}
-use Rattle.ms_term.specs.Tables.{trees}
+use Rattle.std.proofs.Common.{◌≡◌, ◌+◌, sym, ap, ◌∙◌, subst, length}
 use Rattle.ms_tree.specs.Size.{sizes}
-use Rattle.ms_term.specs.Terms.{Names, AllBelow, terms_at, held}
+use Rattle.ms_term.specs.Terms.{AllBelow, terms_at, held}
 use Rattle.ms_term.specs.declared.node.Node.TheVariants.{Function}
 use Rattle.ms_term.proofs.Inserting.{kept_after, named_after, same_after}
 use Rattle.ms_term.proofs.terms.Terms.function.Goals as goal

@@ -1,8 +1,4 @@
-use Rattle.std.proofs.Common.{sym, ap, ◌∙◌, subst, refl, List, length}
-use Rattle.std.specs.Prelude.{OnErr, IfOk}
-use Rattle.ms_tree.specs.Tree.{Tree, text}
-use Rattle.ms_term.specs.Tables.{trees}
-use Rattle.ms_term.specs.Terms.{Names}
+use Rattle.std.proofs.Common.{refl}
 use Rattle.ms_term.specs.declared.node.Node.TheVariants.{Text}
 use Rattle.ms_term.proofs.Inserting.{kept_after, named_after, same_after}
 use Rattle.ms_term.proofs.terms.Terms.text.Goals as goal

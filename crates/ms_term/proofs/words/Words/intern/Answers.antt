@@ -1,4 +1,4 @@
-use Rattle.std.proofs.Common.{subst, List, ℕ}
+use Rattle.std.proofs.Common.{subst}
 use Rattle.ms_term.specs.Words.{Keeps, bytes_of}
 use Rattle.ms_term.proofs.WordTables.{kept_word}
 use Rattle.ms_term.proofs.words.Words.intern.Goals as goal
