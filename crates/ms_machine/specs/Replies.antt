@@ -3,8 +3,8 @@ use Rattle.std.specs.Prelude.{ℕ, Bool, true, false, List, [], ◌∷◌, ◌++
 use Rattle.std.specs.List.{flat_map, list_any}
 use Rattle.std.specs.Fmt.{decimal}
 use Rattle.ms_tree.specs.Tree.{Tree}
-use Rattle.ms_tree.specs.Text.{tree_text}
 use Rattle.ms_term.specs.Terms.{term_at}
+pub use Rattle.ms_solving.specs.Lines.{line, answer_line}
 use Rattle.ms_lits.specs.declared.note.Note.{Note}
 use Rattle.ms_lits.specs.declared.note.Ending.{Ending}
 use Rattle.ms_lits.specs.declared.note.Ending.TheVariants.{Complete, StillOpen, Cut}
@@ -47,14 +47,6 @@ said_by table Released = released
 said_by table NoEffect = no_effect
 said_by table (Solved ending count limit shown) = solved ending count limit (map (map (term_at table)) shown)
 said_by table (Refused refusal) = refused refusal
-
--- a text with its line end
-abbrev pub line : List ℕ → List ℕ
-line text = text ++ 10 ∷ []
-
--- the shown atoms of one answer set
-abbrev pub answer_line : List Tree → List ℕ
-answer_line shown = line (codes "answer:" ++ flat_map (λ t. 32 ∷ tree_text t) shown)
 
 abbrev pub ending_line : Ending → ℕ → ℕ → List ℕ
 ending_line Complete count limit = line (codes "complete " ++ decimal count)

@@ -1,5 +1,5 @@
 -- Fronts of the lines of answer sets after want of memory.
-use Rattle.std.proofs.Common.{◌≡◌, ℕ, ◌+◌, ◌<◌, zero, suc, List, [], ◌∷◌, ◌++◌, codes, map, take, get_or, length, sym, ap, ◌∙◌, subst, append_assoc, append-nil, arith}
+use Rattle.std.proofs.Common.{◌≡◌, ℕ, ◌<◌, zero, suc, List, [], ◌∷◌, ◌++◌, codes, map, take, get_or, length, sym, ap, ◌∙◌, subst, append_assoc, append-nil, arith}
 use Rattle.std.specs.List.{flat_map}
 use Rattle.ms_tree.specs.Tree.{Tree}
 use Rattle.ms_tree.specs.Text.{tree_text}
@@ -7,7 +7,7 @@ use Rattle.ms_term.specs.Fronts.{AppendsFront}
 use Rattle.ms_term.specs.Terms.{term_at}
 use Rattle.ms_term.proofs.FrontLaws.{front_push, nothing, next_front}
 use Rattle.ms_term.proofs.PrintFronts.{front_after}
-use Rattle.ms_machine.specs.Replies.{answer_line}
+use Rattle.ms_solving.specs.Lines.{answer_line}
 
 -- the texts of a list are those of its first elements, of one more, and a rest
 split : {X Y : Type 0} (f : Y → List ℕ) (g : X → Y) (xs : List X) (k : ℕ) (x : X) → k < length xs → x ≡ get_or xs k x
@@ -49,6 +49,17 @@ module _ (ts : List Tree) (atoms : List ℕ) (k a : ℕ) (within : k < length at
   atom_front blank e front =
       line_front (next_front now blank new (tree_text (term_at ts a)) [] (after_blank (term_at ts a)) (front_push now blank (32 ∷ []) e)
       (ap (λ xs. xs ++ (tree_text (term_at ts a) ++ [])) e ∙ (append_assoc now (32 ∷ []) (tree_text (term_at ts a) ++ []) ∙ ap (λ xs. now ++ 32 ∷ xs) (append-nil (tree_text (term_at ts a))))) front)
+
+-- the whole line but its end
+pub line_end : (ts : List Tree) (atoms : List ℕ) (old now new : List ℕ) → now ≡ (old ++ codes "answer:") ++ flat_map after_blank (map (term_at ts) atoms) → new ≡ now
+    → AppendsFront old new (answer_line (map (term_at ts) atoms))
+line_end ts atoms old now new so_far same =
+    let shown = flat_map after_blank (map (term_at ts) atoms) in
+    let is : new ≡ old ++ (codes "answer:" ++ shown) = same ∙ so_far ∙ append_assoc old (codes "answer:") shown in
+    record {
+      kept = record { rest = codes "answer:" ++ shown; is = sym is };
+      front = record { rest = 10 ∷ []; is = ap (λ x. x ++ 10 ∷ []) is ∙ append_assoc old (codes "answer:" ++ shown) (10 ∷ []) };
+    }
 
 pub answers_front : (ts : List Tree) (lists : List (List ℕ)) (k : ℕ) (atoms : List ℕ) (old now new : List ℕ) → k < length lists → atoms ≡ get_or lists k atoms
     → now ≡ old ++ flat_map answer_line (map (map (term_at ts)) (take k lists)) → AppendsFront now new (answer_line (map (term_at ts) atoms))

@@ -7,10 +7,10 @@ use Rattle.std.proofs.lemmas.List.Elements.{Contains-get_or, All-filter, All-con
 use Rattle.std.proofs.lemmas.Option.{slice_get-get_or, get_or_from_slice_get, none-some}
 use Rattle.ms_tree.specs.Tree.{Tree, number, text, function, tree_count}
 use Rattle.ms_core.specs.Texts.{Texts, shows}
-use Rattle.ms_machine.specs.Machine.{shows_atom}
+use Rattle.ms_solving.specs.Showing.{shows_atom}
 use Rattle.ms_term.specs.Terms.{term_at, name_in, arguments_in}
 use Rattle.ms_join.specs.AnswerSets.{IsAtomSet}
-use Rattle.ms_machine.specs.Listing.{HasAtom}
+use Rattle.ms_solving.specs.Listing.{HasAtom}
 use Rattle.ms_term.specs.TermOrder.{IsInTermOrder}
 use Rattle.ms_show.specs.ShownLists.{AreIn, IsShownOf, name_of, shown_of}
 use Rattle.ms_show.proofs.Filtered.{filtered_contained, filtered_passes, contains_filtered}

@@ -2,7 +2,7 @@
 use Rattle.std.specs.Prelude.{ℕ, ◌<◌, Bool, List, All, filter, length, map, slice_index_or}
 use Rattle.ms_tree.specs.Tree.{Tree}
 use Rattle.ms_term.specs.Terms.{term_at}
-use Rattle.ms_machine.specs.Listing.{IsShownList}
+use Rattle.ms_solving.specs.Listing.{IsShownList}
 
 -- the names are names of the table
 abbrev pub AreIn : List Tree → List ℕ → Type 0

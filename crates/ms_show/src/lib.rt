@@ -5,5 +5,5 @@ mod lines;
 mod shown;
 
 pub use lines::print;
-pub use ms_machine::reply::Shown;
+pub use ms_solving::shown::Shown;
 pub use shown::listing;

@@ -4,11 +4,11 @@ ghost use Rattle.std.specs.List.{flat_map};
 ghost use Rattle.ms_tree.specs.Text.{tree_text};
 ghost use Rattle.ms_term.specs.Fronts.{AppendsFront};
 ghost use Rattle.ms_term.specs.Terms.{term_at};
-ghost use Rattle.ms_machine.specs.Replies.{answer_line};
+ghost use Rattle.ms_solving.specs.Lines.{answer_line};
 ghost use Rattle.ms_show.specs.ShownLists.{AreIn};
 
 use ms_base::memory::OutOfMemory;
-use ms_machine::reply::Shown;
+use ms_solving::shown::Shown;
 use ms_term::{TermId, Terms};
 
 /// Appends a line for each answer set: `answer:`, and a blank and its text for each shown atom.

@@ -6,17 +6,17 @@ ghost use Rattle.std.specs.Cmp.Lexicographic.{slice_cmp};
 ghost use Rattle.ms_tree.specs.Order.{compare_trees};
 ghost use Rattle.ms_term.specs.Terms.{term_at};
 ghost use Rattle.ms_join.specs.AnswerSets.{IsAtomSet};
-ghost use Rattle.ms_machine.specs.Listing.{IsListing};
-ghost use Rattle.ms_machine.specs.Machine.{shows_atom};
+ghost use Rattle.ms_solving.specs.Listing.{IsListing};
+ghost use Rattle.ms_solving.specs.Showing.{shows_atom};
 ghost use Rattle.ms_show.specs.ShownLists.{shown_of, IsShownOf, AreIn};
 
 use ms_atombase::AtomBase;
 use ms_base::memory::OutOfMemory;
 use ms_base::seq::Seq;
 use ms_join::ground_module::TermIds;
-use ms_machine::reply::Shown;
 use ms_parts::Parts;
 use ms_rules::AtomSet;
+use ms_solving::shown::Shown;
 use ms_term::{TermId, Terms, compare_lists, in_term_order};
 use std::alloc::Global;
 

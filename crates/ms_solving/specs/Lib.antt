@@ -1,3 +1,4 @@
 pub mod Grounding
+pub mod Lines
 pub mod Listing
 pub mod Showing

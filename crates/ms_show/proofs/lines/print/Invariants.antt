@@ -1,7 +1,7 @@
 use Rattle.std.proofs.Common.{◌≡◌, ◌++◌, map, take}
 use Rattle.std.specs.List.{flat_map}
 use Rattle.ms_term.specs.Terms.{term_at}
-use Rattle.ms_machine.specs.Replies.{answer_line}
+use Rattle.ms_solving.specs.Lines.{answer_line}
 use Rattle.ms_show.proofs.lines.print.Given as goal
 
 -- the answer sets so far have their lines

@@ -1,8 +1,8 @@
 use Rattle.std.proofs.Common.{map}
 use Rattle.std.proofs.lemmas.List.Sorted.{All-permutation, IsPermutation-map}
 use Rattle.ms_term.specs.Terms.{term_at}
-use Rattle.ms_machine.specs.Listing.{IsShownList}
-use Rattle.ms_machine.specs.Machine.{shows_atom}
+use Rattle.ms_solving.specs.Listing.{IsShownList}
+use Rattle.ms_solving.specs.Showing.{shows_atom}
 use Rattle.ms_show.specs.ShownLists.{AreIn, IsShownOf}
 use Rattle.ms_show.proofs.ListOrder.{AllZip-map, All-from_zip}
 use Rattle.ms_show.proofs.shown.listing.Goals as goal

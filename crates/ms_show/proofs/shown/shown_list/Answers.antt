@@ -1,5 +1,5 @@
 use Rattle.std.proofs.Common.{sym, subst}
-use Rattle.ms_machine.specs.Machine.{shows_atom}
+use Rattle.ms_solving.specs.Showing.{shows_atom}
 use Rattle.ms_term.specs.TermOrder.{IsInTermOrder}
 use Rattle.ms_show.specs.ShownLists.{AreIn}
 use Rattle.ms_show.proofs.ShownLists.{AreIn-shown_of, IsShownOf-from_order}

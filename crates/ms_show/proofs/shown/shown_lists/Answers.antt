@@ -1,7 +1,7 @@
 use Rattle.std.proofs.Common.{◌<◌, length, sym, subst, arith}
 use Rattle.std.proofs.lemmas.List.Elements.{All-get_or, all_zip_more}
 use Rattle.ms_join.specs.AnswerSets.{IsAtomSet}
-use Rattle.ms_machine.specs.Machine.{shows_atom}
+use Rattle.ms_solving.specs.Showing.{shows_atom}
 use Rattle.ms_show.specs.ShownLists.{IsShownOf}
 use Rattle.ms_show.proofs.shown.shown_lists.Goals as goal
 

@@ -1,6 +1,6 @@
 use Rattle.std.proofs.Common.{take}
 use Rattle.std.specs.List.{AllZip}
-use Rattle.ms_machine.specs.Machine.{shows_atom}
+use Rattle.ms_solving.specs.Showing.{shows_atom}
 use Rattle.ms_show.specs.ShownLists.{IsShownOf}
 use Rattle.ms_show.proofs.shown.shown_lists.Given as goal
 

@@ -1,5 +1,5 @@
 use Rattle.std.proofs.Common.{◌≡◌, ◌<◌, ◌∙◌, ℕ, Vec, Global, length, get_or, sym, ap, arith}
-use Rattle.ms_machine.specs.Machine.{shows_atom}
+use Rattle.ms_solving.specs.Showing.{shows_atom}
 use Rattle.ms_show.proofs.ShownLists.{shown_kept, shown_passed}
 use Rattle.ms_show.proofs.shown.shown_terms.Goals as goal
 use Rattle.ms_show.proofs.shown.shown_terms.Goals.{then-is_shown+in_ok-push, else-is_shown}

@@ -1,5 +1,5 @@
 use Rattle.std.proofs.Common.{◌≡◌, take}
-use Rattle.ms_machine.specs.Machine.{shows_atom}
+use Rattle.ms_solving.specs.Showing.{shows_atom}
 use Rattle.ms_show.specs.ShownLists.{shown_of}
 use Rattle.ms_show.proofs.shown.shown_terms.Given as goal
 
