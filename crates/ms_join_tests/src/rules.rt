@@ -126,7 +126,6 @@ const fn tiny(head: Option<Atom>, pos: Option<Atom>, neg: Option<Atom>) -> TinyR
         head,
         pos,
         neg,
-        aggs: Seq::new(alloc),
     }
 }
 
@@ -136,7 +135,6 @@ const fn choice(head: Option<Atom>, pos: Option<Atom>, neg: Option<Atom>) -> Tin
         head,
         pos,
         neg,
-        aggs: Seq::new(alloc),
     }
 }
 

@@ -5,3 +5,4 @@ mod Assumed
 mod Refusing
 mod Stepping
 mod Sealing
+mod Inputs

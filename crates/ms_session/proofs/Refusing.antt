@@ -1,20 +1,22 @@
 -- Reasons against a module, and refusals.
 use Rattle.std.proofs.Common.{◌≡◌, ◌≢◌, ◌∙◌, ◌+◌, ◌<◌, ◌≤◌, ◌++◌, ℕ, zero, suc, List, [], ◌∷◌, length, All, refl, sym, ap, subst, arith, Err}
 use Rattle.std.specs.List.{AllPairs}
-use Rattle.std.proofs.lemmas.List.Elements.{All-cons, All-nil, All-weaker}
+use Rattle.std.proofs.lemmas.List.Elements.{All-append, All-cons, All-contains, All-nil, All-weaker}
 use Rattle.std.proofs.lemmas.List.Kept.{AllPairs-cons}
 use Rattle.ms_base.specs.Limits.{most_things}
 use Rattle.ms_tree.specs.Tree.{Tree}
 use Rattle.ms_join.specs.declared.ground_module.GroundModule.{GroundModule}
 use Rattle.ms_join.specs.declared.join_fault.JoinFault.{JoinFault}
 use Rattle.ms_join.specs.declared.join_fault.JoinFault.TheVariants.{TooMany as too_many, Redefined as redefined, CrossLoop as cross_loop, RecursiveAggregate as recursive_aggregate, OutOfMemory}
-use Rattle.ms_join.specs.Modules.{Join}
+use Rattle.ms_join.specs.AnswerSets.{IsRuleOver}
+use Rattle.ms_join.specs.Dependencies.{NeedsInAggregate}
+use Rattle.ms_join.specs.Modules.{Join, IsJoin, IsWellFormed}
 use Rattle.ms_join.specs.Composability.{Checks, IsComposable}
 use Rattle.ms_join.specs.Things.{Thing, IsThing}
 use Rattle.ms_join.specs.Things.Thing.{atom, body, tuple, aggregate}
 use Rattle.ms_join.specs.declared.ground_rule.GroundRule.{GroundRule}
 use Rattle.ms_machine.specs.declared.reply.Refusal.{Refusal}
-use Rattle.ms_session.specs.Joining.{IsRefusalOf, RefusesAs}
+use Rattle.ms_session.specs.Joining.{AreAtomsOf, IsRefusalOf, RefusesAs}
 
 -- a reason is refused by its texts
 pub refuses : (names : List Tree) (j : Join) (m : GroundModule) (fault : JoinFault) (refusal : Refusal) → Checks names j m (Err fault) → IsRefusalOf names fault refusal
@@ -72,3 +74,26 @@ few_atoms j m h =
     let n : ℕ = j.atoms + m.fresh in
     let not_more : most_things < n → ⊥ = λ more. h.few (record { things = atoms_below n; each = are_things n (j.rules ++ m.rules); once = each_once n; many = omega (arith, more, atoms_count n) }) in
     omega arith
+
+-- each of the rules has no aggregate
+plain_rules : (n : ℕ) (rules : List GroundRule) → All (IsRuleOver n) rules → All (λ rule. rule.aggs ≡ []) rules
+plain_rules n rules over = All-weaker (IsRuleOver n) (λ rule. rule.aggs ≡ []) (λ rule is. is.plain) rules over
+
+no_element : (rule : GroundRule) (b : ℕ) → rule.aggs ≡ [] → ¬ NeedsInAggregate rule b
+no_element rule b plain needs =
+    let (k, s, within, at, rest) = needs in
+    let few : length rule.aggs ≡ 0 = ap length plain in
+    omega (arith, within, few)
+
+-- the atoms of a fault are among the atoms of the join and of the module
+pub atoms_within : (names : List Tree) (j : Join) (m : GroundModule) (n : ℕ) (fault : JoinFault) → n ≡ j.atoms + m.fresh → IsJoin j → IsWellFormed j.atoms m → Checks names j m (Err fault) → AreAtomsOf n fault
+atoms_within names j m n too_many is join well h = tt
+atoms_within names j m n (redefined a) is join well h = subst (λ k. a < k) (sym is) (All-contains (λ b. b < j.atoms + m.fresh) m.heads a well.heads.within h.redefined.is.head)
+atoms_within names j m n (cross_loop a b) is join well h =
+    let less : b < j.atoms = h.old.is.output.within in
+    (subst (λ k. a < k) (sym is) (All-contains (λ c. c < j.atoms + m.fresh) m.heads a well.heads.within h.new_head.is.head), omega (arith, less, is))
+atoms_within names j m n (recursive_aggregate a) is join well h =
+    let (k, rule, within, at, both) = h.recursive.is.depends in
+    let plain = All-append (λ rule. rule.aggs ≡ []) j.rules m.rules (plain_rules j.atoms j.rules join.over.rules) (plain_rules (j.atoms + m.fresh) m.rules well.rules) in
+    absurd (no_element rule h.recursive.is.other (All-contains (λ rule. rule.aggs ≡ []) (j.rules ++ m.rules) rule plain (k, within, at)) both.1)
+atoms_within names j m n OutOfMemory is join well h = tt

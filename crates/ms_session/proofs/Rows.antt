@@ -4,7 +4,10 @@ use Rattle.std.proofs.Math.ListN.{drop_of_length-le}
 use Rattle.ms_tree.specs.Tree.{Tree, Trees, no_tree, tree, function}
 use Rattle.ms_term.specs.Terms.{term_at, terms_at, AreWhole, HasEach, HasNo}
 use Rattle.ms_grammar.specs.declared.value.Value.{Value}
-use Rattle.ms_solving.specs.Listing.{row, tree_of_value}
+use Rattle.ms_grammar.specs.declared.value.Value.TheVariants.{Function, rolls-Function}
+use Rattle.ms_grammar.specs.declared.value.Value.TheOpen.{Value-F}
+use Rattle.ms_grammar.specs.declared.value.Value.TheFolds.{fold-roll-Value}
+use Rattle.ms_solving.specs.Listing.{row, tree_of_value, value_step}
 use Rattle.ms_session.specs.Naming.{LacksOne}
 
 -- the terms of names, and then others
@@ -66,3 +69,7 @@ all_named ts names vs i all h same =
     sym (before_none ts names)
     ∙ sym (ap (λ us. before ts names (row (map tree_of_value us))) (drop_of_length-le vs h))
     ∙ same
+
+-- the term of a value that is a function
+pub tree_of_function : (f : List ℕ) (vs : List Value) → tree_of_value (Function f vs) ≡ function f (row (map tree_of_value vs))
+tree_of_function f vs = ap tree_of_value (sym (rolls-Function f vs)) ∙ fold-roll-Value Tree value_step (Value-F.Function f vs)

@@ -43,7 +43,7 @@ same_table table (Ok reply) = keeps_same table
 same_table table (Err e) = tt
 
 -- what finding an atom says of a session
-pub found_by : (now : Bool) (old : Kept) (t : Tree) (r : Result (Option ℕ) OutOfMemory) → old.sealed ≡ false → now ≡ is_err r
+pub found_by : (now : Bool) (old : Kept) (t : Tree) (r : Result (Option ℕ) OutOfMemory) → old.sealed ≡ false → now ≡ is_err r → old.notes ≡ []
     → IfOk r (IsNumberOf (state_of old).names t) → IfOk r (IsFound old t (record old { sealed = now }))
-found_by now old t (Ok found) was is h = record { was_open = was; same = ap (λ (b : Bool). record old { sealed = b }) (is ∙ sym was); found = h }
-found_by now old t (Err e) was is h = tt
+found_by now old t (Ok found) was is silent h = record { was_open = was; same = ap (λ (b : Bool). record old { sealed = b }) (is ∙ sym was); silent = silent; found = h }
+found_by now old t (Err e) was is silent h = tt

@@ -75,10 +75,11 @@ pub record IsAtomOf (names : List Tree) (t : Tree) (a : ℕ) : Type 0 where
 abbrev pub IsNumberOf : List Tree → Tree → Option ℕ → Type 0
 IsNumberOf names t number = MatchOption number (¬ Contains names t) (IsAtomOf names t)
 
--- The base has the atom with this term under this number, or none. Nothing changes.
+-- The base has the atom with this term under this number, or none. Nothing changes, and no lines of the log stand.
 pub record IsFound (old : Kept) (t : Tree) (new : Kept) (number : Option ℕ) : Type 0 where
   pub was_open : old.sealed ≡ false
   pub same : new ≡ old
+  pub silent : old.notes ≡ []
   pub found : IsNumberOf (state_of old).names t number
 
 -- The input has this truth from now on, and nothing else changes. Nothing at all does where the atom is no input.

@@ -40,11 +40,13 @@ pub(crate) fn ground_calls(
     ensures keeps { OnOk result (Keeps terms.old terms.new) }
 {
     let mark = terms.mark();
-    let reply = ground_and_join(alloc, parts, terms, base, join, calls)?;
-    if let Reply::Refused(_) = reply {
-        terms.back_to(mark);
+    match ground_and_join(alloc, parts, terms, base, join, calls)? {
+        Reply::Refused(refusal) => {
+            terms.back_to(mark);
+            Ok(Reply::Refused(refusal))
+        }
+        reply => Ok(reply),
     }
-    Ok(reply)
 }
 
 /// The same, but where it is refused the table may have new terms.
@@ -88,6 +90,8 @@ fn join_module(
     requires { IsGrownBase terms.now mark base.old join.old ground_module.now }
     ensures { IfOk result (JoinsAs terms.now mark ground_module.now base.old join.old base.new join.new) }
 {
+    // The join says that its rules are over its base.
+    let _ = join.rules();
     match join.check(alloc, terms, base, ground_module) {
         Ok(()) => {
             let atoms = ground_module.names.len() as u64;

@@ -46,13 +46,14 @@ pub struct Session {
 impl Model for Session {
     ghost use Rattle.std.specs.Prelude.{◌≡◌, [], false};
     ghost use Rattle.std.specs.Coded.{codes};
+    ghost use Rattle.ms_term.specs.TreeCode.{tree_code};
     ghost use Rattle.ms_grammar.specs.contracts.term.TextTerm as term;
     ghost use Rattle.ms_grammar.specs.contracts.value.Value as value;
     ghost use Rattle.ms_session.specs.Kept.{Kept, IsSound};
 
     ghost Value = { Kept };
 
-    ghost coded = { Prim.hlevel (codes, term.the_row.coded, value.the_row.coded) };
+    ghost coded = { Prim.hlevel (codes, tree_code, term.the_row.coded, value.the_row.coded) };
 
     ghost view = { λ s. record { sealed = s.sealed; table = s.terms; texts = s.parts; base = s.base; join = s.join; notes = s.notes } };
 

@@ -1,6 +1,6 @@
-use Rattle.std.proofs.Common.{map, refl}
+use Rattle.std.proofs.Common.{length, map, refl}
 use Rattle.ms_term.specs.Terms.{term_at}
-use Rattle.ms_session.proofs.Refusing.{refuses}
+use Rattle.ms_session.proofs.Refusing.{atoms_within, refuses}
 use Rattle.ms_session.proofs.grounding.join_module.Goals as goal
 
 pub returns-in_ok-refusal-in-Err : goal.returns-in_ok-refusal-in-Err
@@ -9,3 +9,7 @@ returns-in_ok-refusal-in-Err c = (
   c.back_to.ensures,
   refl,
 )
+
+pub refusal_of-requires-clause-within : goal.refusal_of-requires-clause-within
+refusal_of-requires-clause-within c =
+    atoms_within (map (term_at c.args.terms.now) c.args.base.now) c.args.join.now c.args.ground_module.now (length c.args.base.now) c.in-Err.fault c.requires.counted c.rules.ensures.join c.requires.well_formed c.in-Err.ensures

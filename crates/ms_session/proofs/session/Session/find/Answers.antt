@@ -8,4 +8,4 @@ returns-clause-ok c =
     rw (← c.self.view_is)
     (found_by c.is_err-self-inside.result
     (record { sealed = s.sealed; table = s.terms; texts = s.parts; base = s.base; join = s.join; notes = s.notes })
-    (tree_of_value c.args.atom.now) c.find_atom-found.result c.if-self.false c.is_err-self-inside.ensures.value c.find_atom-found.ensures)
+    (tree_of_value c.args.atom.now) c.find_atom-found.result c.if-self.false c.is_err-self-inside.ensures.value c.self.invariant.0 c.find_atom-found.ensures)

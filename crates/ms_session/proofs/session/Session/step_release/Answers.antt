@@ -1,0 +1,13 @@
+use Rattle.ms_session.proofs.Inputs.{is_released, not_released, unknown_released}
+use Rattle.ms_session.proofs.session.Session.step_release.Goals as goal
+
+pub returns-in_default-clause-ok : goal.returns-in_default-clause-ok
+returns-in_default-clause-ok c = unknown_released c.args.self.now c.find.new.self c.args.atom.now c.in_ok-a.field-0 c.in_ok-a.ensures.ok c.in_default.is
+
+pub returns-in-Done-clause-ok : goal.returns-in-Done-clause-ok
+returns-in-Done-clause-ok c =
+    is_released c.args.self.now c.find.new.self c.args.atom.now c.in_ok-a.field-0 c.in_ok-a.ensures.ok c.release.new.self c.in-Some.a c.in-Some.is (rw c.in-Done.is at c.in_ok-release.ensures.ok)
+
+pub returns-in-NoEffect-clause-ok : goal.returns-in-NoEffect-clause-ok
+returns-in-NoEffect-clause-ok c =
+    not_released c.args.self.now c.find.new.self c.args.atom.now c.in_ok-a.field-0 c.in_ok-a.ensures.ok c.release.new.self c.in-Some.a c.in-Some.is (rw c.in-NoEffect.is at c.in_ok-release.ensures.ok)
