@@ -21,12 +21,13 @@ use Rattle.ms_things.specs.Signs.{IsFor, IsNogoodOf, Signed, minus, plus, turned
 use Rattle.ms_loops.proofs.Founding.{head_of, if_at}
 use Rattle.ms_base.proofs.Lists.{Contains-behind, Contains-cases, Contains-first}
 use Rattle.ms_loops.proofs.Members.{any_at, member_at, place_of}
+use Rattle.ms_loops.proofs.Truths.{parts_made}
 use Rattle.ms_loops.proofs.Unfounded.{head_below}
 
 -- ---- numbers of old things
 
 -- things of a longer list under the numbers that they have
-get_front : {X : Type 0} (xs ys : List X) (k : ℕ) (x : X) → slice_get xs k ≡ Some x → slice_get (xs ++ ys) k ≡ Some x
+pub get_front : {X : Type 0} (xs ys : List X) (k : ℕ) (x : X) → slice_get xs k ≡ Some x → slice_get (xs ++ ys) k ≡ Some x
 get_front [] ys k x at = cc
 get_front (y ∷ xs) ys zero x at = at
 get_front (y ∷ xs) ys (suc k) x at = get_front xs ys k x at
@@ -38,9 +39,9 @@ one_number xs i k x once first then =
     elim (cases_eq i k) [
       | inl is ↦ is
       | inr differ ↦ elim (cases_lt i k) [
-          | inl less ↦ absurd (once i k x less (slice_get_within xs k x then) same)
-          | inr more ↦ absurd (once k i x (omega (arith, more, differ)) (slice_get_within xs i x first) (sym same))
-        ]
+        | inl less ↦ absurd (once i k x less (slice_get_within xs k x then) same)
+        | inr more ↦ absurd (once k i x (omega (arith, more, differ)) (slice_get_within xs i x first) (sym same))
+      ]
     ]
 
 module _ (things more : List Thing) (signs : List Signed) (nogood : Nogood) where
@@ -58,9 +59,9 @@ module _ (things more : List Thing) (signs : List Signed) (nogood : Nogood) wher
   without_more : AllPairs (λ t u. t ≢ u) (things ++ more) → All (λ s. Contains things s.thing) signs → IsNogoodOf (things ++ more) signs nogood → IsNogoodOf things signs nogood
   without_more once there is =
       let at_old : (s : Signed) → Contains signs s → (number : ℕ) → slice_get (things ++ more) number ≡ Some s.thing → slice_get things number ≡ Some s.thing =
-          λ s among number at.
-          let place = place_of things s.thing (All-contains (λ t. Contains things t.thing) signs s there among) in
-          subst (λ n. slice_get things n ≡ Some s.thing) (one_number (things ++ more) place.0 number s.thing once (get_front things more place.0 s.thing place.1) at) place.1 in
+      λ s among number at.
+      let place = place_of things s.thing (All-contains (λ t. Contains things t.thing) signs s there among) in
+      subst (λ n. slice_get things n ≡ Some s.thing) (one_number (things ++ more) place.0 number s.thing once (get_front things more place.0 s.thing place.1) at) place.1 in
       record {
         rising = is.rising;
         of_set = λ k d within.
@@ -83,17 +84,7 @@ module _ (j : Join) (things : List Thing) (are : AreThings j things) where
       member_at things part before.0 before.2
 
   parts_there : (b : Body) → Contains things (body b) → All (λ s. Contains things s.thing) (parts_of b)
-  parts_there b there =
-      All-append (λ s. Contains things s.thing) (map (λ a. plus (atom a)) b.pos ++ map (λ a. minus (atom a)) b.neg) (map (λ s. record { thing = aggregate s.agg; truth = not s.negated }) b.aggs)
-      (All-append (λ s. Contains things s.thing) (map (λ a. plus (atom a)) b.pos) (map (λ a. minus (atom a)) b.neg)
-      (All-map (λ s. Contains things s.thing) (λ a. plus (atom a)) b.pos
-      (λ k d within. part_there (body b) (atom (get_or b.pos k d)) there (inl (Contains-get_or b.pos k d within))))
-      (All-map (λ s. Contains things s.thing) (λ a. minus (atom a)) b.neg
-      (λ k d within. part_there (body b) (atom (get_or b.neg k d)) there (inr (Contains-get_or b.neg k d within)))))
-      (All-map (λ s. Contains things s.thing) (λ s. record { thing = aggregate s.agg; truth = not s.negated }) b.aggs
-      (λ k d within.
-      part_there (body b) (aggregate (get_or b.aggs k d).agg) there
-      (any_at (λ s. s.agg ≡ (get_or b.aggs k d).agg) b.aggs (get_or b.aggs k d) (Contains-get_or b.aggs k d within) refl)))
+  parts_there b there k d within = part_there (body b) (get_or (parts_of b) k d).thing there (parts_made b k d within)
 
   body_there : (rule : GroundRule) → Contains j.rules rule → Contains things (body (body_of rule))
   body_there rule among = (are.exactly (body (body_of rule))).1 (any_at (λ r. IsThingOf r (body (body_of rule))) j.rules rule among (inl refl))
@@ -150,9 +141,9 @@ contains_or_not [] a = inr (λ (k, within, at). absurd (omega (arith, within)))
 contains_or_not (x ∷ xs) a = elim (cases_eq x a) [
   | inl same ↦ inl (subst (Contains (x ∷ xs)) same (Contains-first x xs))
   | inr differ ↦ elim (contains_or_not xs a) [
-      | inl there ↦ inl (Contains-behind x xs a there)
-      | inr apart ↦ inr (λ there. elim (Contains-cases x xs a there) [ | inl same ↦ differ same | inr later ↦ apart later ])
-    ]
+    | inl there ↦ inl (Contains-behind x xs a there)
+    | inr apart ↦ inr (λ there. elim (Contains-cases x xs a there) [ inl same ↦ differ same | inr later ↦ apart later ])
+  ]
 ]
 
 module _ (old new : Join) (m : GroundModule) (is : IsJoin old) (well : IsWellFormed old.atoms m) (composable : IsComposable old m) (joined : IsJoined old m new) where
@@ -180,20 +171,20 @@ module _ (old new : Join) (m : GroundModule) (is : IsJoin old) (well : IsWellFor
   output_cases a out = elim (contains_or_not m.heads a) [
     | inl head ↦ inr head
     | inr apart ↦ elim (cases_lt a old.atoms) [
-        | inl less ↦ inl (record {
-            within = less;
-            no_input = λ (k, i, within, at, same).
-                let there : Contains new.inputs i = (joined.inputs i).1 (inl ((k, within, at), λ head. apart (subst (Contains m.heads) same head))) in
-                out.no_input (any_at (λ (e : Input). e.atom ≡ a) new.inputs i there same);
-          })
-        | inr late ↦ elim (well.covered a late (subst (λ n. a < n) joined.atoms out.within)) [
-            | inl head ↦ inr head
-            | inr external ↦
-                let i : Input = record { atom = a; value = Some (declared_value m a) } in
-                let there : Contains new.inputs i = (joined.inputs i).1 (inr (late, external, apart, refl)) in
-                absurd (out.no_input (any_at (λ (e : Input). e.atom ≡ a) new.inputs i there refl))
-          ]
+      | inl less ↦ inl (record {
+        within = less;
+        no_input = λ (k, i, within, at, same).
+            let there : Contains new.inputs i = (joined.inputs i).1 (inl ((k, within, at), λ head. apart (subst (Contains m.heads) same head))) in
+            out.no_input (any_at (λ (e : Input). e.atom ≡ a) new.inputs i there same);
+      })
+      | inr late ↦ elim (well.covered a late (subst (λ n. a < n) joined.atoms out.within)) [
+        | inl head ↦ inr head
+        | inr external ↦
+            let i : Input = record { atom = a; value = Some (declared_value m a) } in
+            let there : Contains new.inputs i = (joined.inputs i).1 (inr (late, external, apart, refl)) in
+            absurd (out.no_input (any_at (λ (e : Input). e.atom ≡ a) new.inputs i there refl))
       ]
+    ]
   ]
 
   -- the rules with an output as their head
@@ -249,12 +240,12 @@ module _ (old new : Join) (m : GroundModule) (is : IsJoin old) (well : IsWellFor
 
     says_cases : (says : Completion) → OfNew says → OfOld says ⊎ OfModule says
     says_cases (whole_body b) of = thing_cases (body b) of
-    says_cases (part_of_body b part) (of, among) = elim (thing_cases (body b) of) [ | inl there ↦ inl (there, among) | inr there ↦ inr (there, among) ]
+    says_cases (part_of_body b part) (of, among) = elim (thing_cases (body b) of) [ inl there ↦ inl (there, among) | inr there ↦ inr (there, among) ]
     says_cases (no_condition t) of = thing_cases (tuple t) of
-    says_cases (condition_of_tuple t c) (of, among) = elim (thing_cases (tuple t) of) [ | inl there ↦ inl (there, among) | inr there ↦ inr (there, among) ]
+    says_cases (condition_of_tuple t c) (of, among) = elim (thing_cases (tuple t) of) [ inl there ↦ inl (there, among) | inr there ↦ inr (there, among) ]
     says_cases (unsupported a) of = output_cases a of
-    says_cases (no_head rule h) (among, kind, at) = elim (rule_cases rule among) [ | inl there ↦ inl (there, kind, at) | inr there ↦ inr (there, kind, at) ]
-    says_cases (broken rule) (among, kind) = elim (rule_cases rule among) [ | inl there ↦ inl (there, kind) | inr there ↦ inr (there, kind) ]
+    says_cases (no_head rule h) (among, kind, at) = elim (rule_cases rule among) [ inl there ↦ inl (there, kind, at) | inr there ↦ inr (there, kind, at) ]
+    says_cases (broken rule) (among, kind) = elim (rule_cases rule among) [ inl there ↦ inl (there, kind) | inr there ↦ inr (there, kind) ]
 
     old_stays : (says : Completion) → OfOld says → OfNew says × (signs_of new.rules says ≡ signs_of old.rules says)
     old_stays (whole_body b) of = (old_thing (body b) of, refl)
@@ -283,16 +274,16 @@ module _ (old new : Join) (m : GroundModule) (is : IsJoin old) (well : IsWellFor
     divided : (nogood : Nogood) → IsCompletionNogood new (things ++ more) nogood → IsCompletionNogood old things nogood ⊎ IsNewCompletion m (things ++ more) more nogood
     divided nogood n = elim (says_cases n.says n.of_join) [
       | inl of ↦ inl (record {
-          says = n.says;
-          of_join = of;
-          is = without_more things more (signs_of old.rules n.says) nogood now.once (signs_there old things are n.says of is)
-              (subst (λ (signs : List Signed). IsNogoodOf (things ++ more) signs nogood) (old_stays n.says of).1 n.is);
-        })
+        says = n.says;
+        of_join = of;
+        is = without_more things more (signs_of old.rules n.says) nogood now.once (signs_there old things are n.says of is)
+            (subst (λ (signs : List Signed). IsNogoodOf (things ++ more) signs nogood) (old_stays n.says of).1 n.is);
+      })
       | inr of ↦ inr (record {
-          says = n.says;
-          of_module = of;
-          is = subst (λ (signs : List Signed). IsNogoodOf (things ++ more) signs nogood) (new_stays n.says of).1 n.is;
-        })
+        says = n.says;
+        of_module = of;
+        is = subst (λ (signs : List Signed). IsNogoodOf (things ++ more) signs nogood) (new_stays n.says of).1 n.is;
+      })
     ]
 
     of_old : (nogood : Nogood) → IsCompletionNogood old things nogood → IsCompletionNogood new (things ++ more) nogood

@@ -60,10 +60,10 @@ pub nothing_unfounded : (j : Join) (set loop : ℕ → Bool) → IsPossible j se
 nothing_unfounded j set loop possible is =
     let free : IsFreeSet j.rules (IsInput j) set = free_from_possible j set possible in
     let left : IsTrue (without loop set is.member) =
-        free.least (without loop set)
-        (λ k d within. rule_left set loop (get_or j.rules k d).kind (get_or j.rules k d) (is.unsupported k d within) (free.model k d within))
-        (λ a input here. and_from (set a) (not (loop a)) here (not_from_false (loop a) (false_from_ne_true (loop a) (λ inside. (is.among.outputs a inside).no_input input))))
-        is.member is.true_there in
+    free.least (without loop set)
+    (λ k d within. rule_left set loop (get_or j.rules k d).kind (get_or j.rules k d) (is.unsupported k d within) (free.model k d within))
+    (λ a input here. and_from (set a) (not (loop a)) here (not_from_false (loop a) (false_from_ne_true (loop a) (λ inside. (is.among.outputs a inside).no_input input))))
+    is.member is.true_there in
     false≢true (sym (not_from_true (loop is.member) is.has) ∙ not_of_loop set loop is.member left)
 
 pub founded_from_possible : (j : Join) (set : ℕ → Bool) → IsPossible j set → IsFoundedModel j set
@@ -104,9 +104,9 @@ pub possible_over_base : (j : Join) (set : ℕ → Bool) → IsJoin j → IsPoss
 possible_over_base j set is possible a here =
     let free : IsFreeSet j.rules (IsInput j) set = free_from_possible j set possible in
     let there : IsTrue (cut j.atoms set a) =
-        free.least (cut j.atoms set)
-        (λ k d within. rule_below j.atoms set (get_or j.rules k d).kind (get_or j.rules k d)
-        (head_below j.atoms (get_or j.rules k d).kind (get_or j.rules k d).head (is.over.rules k d within).head) (free.model k d within))
-        (λ b input chosen. in_cut j.atoms set b (input_below j is.over.inputs b input) chosen)
-        a here in
+    free.least (cut j.atoms set)
+    (λ k d within. rule_below j.atoms set (get_or j.rules k d).kind (get_or j.rules k d)
+    (head_below j.atoms (get_or j.rules k d).kind (get_or j.rules k d).head (is.over.rules k d within).head) (free.model k d within))
+    (λ b input chosen. in_cut j.atoms set b (input_below j is.over.inputs b input) chosen)
+    a here in
     (from_cut j.atoms set a there).0
