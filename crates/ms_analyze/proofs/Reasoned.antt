@@ -8,7 +8,8 @@ use Rattle.ms_lits.specs.declared.trail.Entry.{Entry}
 use Rattle.ms_lits.specs.Assignment.{Assignment, IsAssignment}
 use Rattle.ms_nogood.specs.Store.{Store, Stored, Adds, awake_in, nogood_at}
 use Rattle.ms_nogood.specs.Propagation.{IsForced, Propagates}
-use Rattle.ms_analyze.specs.Analysis.{AreReasoned, IsOnlyDecision}
+use Rattle.ms_refutation.specs.Sets.{AreReasoned}
+use Rattle.ms_analyze.specs.Analysis.{IsOnlyDecision}
 
 -- an entry after these has no reason, or its reason was unit in them
 abbrev pub IsReasoned : Store → List Entry → Entry → Type 0

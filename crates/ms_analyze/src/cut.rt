@@ -32,20 +32,22 @@ impl Cut {
         }
     }
 
-    /// Adds those literals of a nogood of the store that lie below a place of the trail.
+    /// Adds those literals of a nogood of the store that lie below a place of the trail, and not among the
+    /// fixed ones.
     pub(crate) fn mark(
         &mut self,
         key: usize,
+        fixed: usize,
         below: usize,
         trail: &Trail,
         store: &Nogoods,
     ) -> Result<(), OutOfMemory>
         requires { IsAssignedAt store.now trail.now key }
-        ensures places { OnOk result ((s : Stored) → nogood_at store.now key ≡ Some s → self.new.places.keys ≡ marked trail.now.entries below self.old.places.keys s.lits) }
+        ensures places { OnOk result ((s : Stored) → nogood_at store.now key ≡ Some s → self.new.places.keys ≡ marked trail.now.entries fixed below self.old.places.keys s.lits) }
         ensures temporary { self.new.temporary ≡ self.old.temporary || is_temporary (nogood_at store.now key) }
     {
         self.temporary = self.temporary || is_temporary(store.kind(key));
-        mark_lits(&mut self.places, store.get(key), below, trail)
+        mark_lits(&mut self.places, store.get(key), fixed, below, trail)
     }
 
     /// Takes the last place out.
@@ -84,12 +86,14 @@ impl Cut {
     pub(crate) fn learned(
         self,
         last: usize,
+        resolved: Vec<u32>,
         alloc: Global,
         trail: &Trail,
     ) -> Result<Learned, OutOfMemory>
         requires last { last < length trail.now.entries }
         requires within { All (λ place. place < length trail.now.entries) self.places.keys }
-        ensures { IfOk result (IsReadOff trail.now.entries self.places.keys last self.temporary) }
+        ensures read { IfOk result (IsReadOff trail.now.entries self.places.keys last self.temporary) }
+        ensures resolved { IfOk result (λ r. r.resolved ≡ resolved.items) }
     {
         let back = match self.places.last() {
             Some(place) => trail.entry(*place).level,
@@ -104,6 +108,7 @@ impl Cut {
             lits: Seq::from_vec(lits),
             back,
             temporary: self.temporary,
+            resolved: Seq::from_vec(resolved),
         })
     }
 }
@@ -117,20 +122,21 @@ fn is_temporary(kind: Kind) -> bool
     }
 }
 
-/// Adds the places of those literals that lie below a place of the trail.
+/// Adds the places of those literals that lie below a place of the trail, and not among the fixed ones.
 fn mark_lits(
     places: &mut BTreeSet<usize, Global>,
     lits: &[Lit],
+    fixed: usize,
     below: usize,
     trail: &Trail,
 ) -> Result<(), OutOfMemory>
     requires room { All (λ lit. lit.var < trail.now.room) lits.now }
     requires assigned { All (λ lit. IsSome (entry_of trail.now.entries lit.var)) lits.now }
-    ensures { OnOk result (places.new.keys ≡ marked trail.now.entries below places.old.keys lits.now) }
+    ensures { OnOk result (places.new.keys ≡ marked trail.now.entries fixed below places.old.keys lits.now) }
 {
     for lit in lits {
         let place = trail.place_of(lit.var);
-        if place < below {
+        if fixed <= place && place < below {
             places.insert(place)?;
         }
     }

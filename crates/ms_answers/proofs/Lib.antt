@@ -1,4 +1,4 @@
 mod Carrying
 mod Listed
 mod Places
-mod Rising
+pub mod Rising

@@ -9,7 +9,7 @@ use Rattle.std.proofs.lemmas.List.Elements.{All-push, All-weaker, All-nil, Conta
 use Rattle.std.proofs.lemmas.List.Quantifiers.{all_pairs_push}
 use Rattle.ms_lits.specs.declared.note.Ending.TheVariants.{Complete}
 use Rattle.ms_join.specs.AnswerSets.{IsAtomSet}
-use Rattle.ms_machine.specs.Listing.{AreAllAnswers, EndsAs}
+use Rattle.ms_solving.specs.Listing.{AreAllAnswers, EndsAs}
 use Rattle.ms_answers.specs.Subsets.{place_of, tried_before, KeepsWhere}
 use Rattle.ms_answers.proofs.Places.{place_below, same_from_place}
 

@@ -1,20 +1,20 @@
 // The answer sets of a join, found by trying every set of atoms. It is the plain form of solving.
 #![tactic(auto)]
 
-ghost use Rattle.std.specs.Prelude.{◌≡◌, IfOk, OnOk};
+ghost use Rattle.std.specs.Prelude.{◌≡◌, ◌≢◌, ◌≤◌, IfOk, OnOk, length};
 ghost use Rattle.ms_join.specs.AnswerSets.{AreRulesOver, IsAtomSet};
-ghost use Rattle.ms_machine.specs.Listing.{AreAnswers, EndsAs};
-ghost use Rattle.ms_answers.specs.Meeting.{IsMeetingAnswer};
+ghost use Rattle.ms_join.specs.Assumptions.{IsMeetingAnswer};
+ghost use Rattle.ms_solving.specs.Listing.{AreAnswers, EndsAs};
 ghost use Rattle.ms_answers.specs.Subsets.{KeepsWhere};
 
 mod meeting;
 mod subsets;
 
-pub use meeting::AtomLit;
 use meeting::meets_each;
 use ms_base::seq::Seq;
+use ms_join::assumption::AtomLit;
 pub use ms_lits::Ending;
-use ms_rules::{AtomSet, OutOfMemory, Rules, Scratch, is_answer};
+use ms_rules::{AtomSet, OutOfMemory, RuleScratch, Rules, is_answer_by};
 use std::alloc::Global;
 use subsets::next_set;
 
@@ -31,18 +31,18 @@ fn keep_answer(
     join: &Rules,
     assume: &[AtomLit],
     set: &AtomSet,
-    scratch: &mut Scratch,
+    scratch: &mut RuleScratch,
     sets: &mut Seq<AtomSet>,
 ) -> Result<(), OutOfMemory>
-    requires over_base { AreRulesOver scratch.old join.now }
-    requires set { IsAtomSet scratch.old set.now }
+    requires over_base { AreRulesOver scratch.old.atoms join.now }
+    requires rules { length join.now.rules ≤ scratch.old.rules }
+    requires set { IsAtomSet scratch.old.atoms set.now }
     ensures room { scratch.new ≡ scratch.old }
     ensures kept { OnOk result
-        (KeepsWhere (IsMeetingAnswer scratch.old join.now assume.now set.now) set.now sets.old sets.new) }
+        (KeepsWhere (IsMeetingAnswer scratch.old.atoms join.now assume.now set.now) set.now sets.old sets.new) }
 {
-    if meets_each(set, assume) && is_answer(join, set, scratch) {
-        let members = Vec::from_slice(alloc, set.as_slice())?;
-        sets.push(Seq::from_vec(members))?;
+    if meets_each(set, assume) && is_answer_by(join, set, scratch) {
+        sets.push(Seq::copied(alloc, set.as_slice())?)?;
     }
     Ok(())
 }
@@ -62,8 +62,9 @@ pub fn answer_sets(
     ensures true_ones { IfOk result (λ found. AreAnswers (IsMeetingAnswer atoms join.now assume.now) found.sets) }
     ensures ends { IfOk result
         (λ found. EndsAs found.ending asked (IsMeetingAnswer atoms join.now assume.now) found.sets) }
+    ensures uncut { IfOk result (λ found. found.ending ≢ Ending.Cut) }
 {
-    let mut scratch = Scratch::new(alloc, atoms)?;
+    let mut scratch = RuleScratch::new(alloc, atoms, join.rules.len())?;
     let mut sets = Seq::new(alloc);
     let mut candidate = Some(Seq::new(alloc));
     while let Some(set) = candidate {

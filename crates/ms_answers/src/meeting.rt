@@ -1,16 +1,10 @@
-// Assumptions on atoms.
+// Sets and the assumptions on their atoms.
 ghost use Rattle.std.specs.Prelude.{◌≡◌, ◌↔◌, IsTrue};
 ghost use Rattle.ms_join.specs.AnswerSets.{set_of};
-ghost use Rattle.ms_answers.specs.Meeting.{MeetsEach};
+ghost use Rattle.ms_join.specs.Assumptions.{MeetsEach};
 
+use ms_join::assumption::AtomLit;
 use ms_rules::{AtomId, AtomSet};
-
-/// An atom that is taken for true or false.
-#[derive(Clone, Copy, Debug, PartialEq, Eq)]
-pub struct AtomLit {
-    pub atom: AtomId,
-    pub truth: bool,
-}
 
 fn has(set: &[AtomId], atom: AtomId) -> bool
     ensures { result ≡ set_of set.now atom }

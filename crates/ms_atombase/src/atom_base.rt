@@ -1,10 +1,11 @@
-ghost use Rattle.std.specs.Prelude.{◌≡◌, ℕ, ◌<◌, ◌≤◌, ◌++◌, ◌∷◌, [], Some, IsTrue, ◌↔◌, length, take, slice_get, Contains, MatchOption, OnOk, OnErr, IfOk};
+ghost use Rattle.std.specs.Prelude.{◌≡◌, ◌<◌, ◌≤◌, [], All, Any, Some, IsTrue, ◌↔◌, length, take, slice_get, Contains, MatchOption, OnErr, IfOk};
+ghost use Rattle.ms_term.specs.Terms.{term_at, IsLarge};
 ghost use Rattle.ms_atombase.specs.Bases.{IsPlaceOf, Interns};
 
 use indexmap::IndexSet;
 use ms_base::atom_id::AtomId;
 use ms_base::memory::OutOfMemory;
-use ms_term::TermId;
+use ms_term::{MOST_SYMBOLS, TermId, Terms};
 use std::alloc::Global;
 use std::marker::Model;
 
@@ -84,6 +85,15 @@ impl AtomBase {
         Some(AtomId(place as u32))
     }
 
+    /// Whether some atom is large, as it has more than 2,000 symbols. While the table has no large term it
+    /// costs no walk over the atoms.
+    pub fn has_large(&self, terms: &Terms) -> bool
+        requires { All (λ t. t < length terms.now) self.now }
+        ensures { IsTrue result ↔ Any (λ t. IsLarge (term_at terms.now t)) self.now }
+    {
+        terms.first_large().is_some() && any_large(terms, self.atoms.as_slice())
+    }
+
     /// The number of the atom with this term. A new one goes last. Where there is no memory for it the base
     /// stays. The base has fewer than 4,294,967,295 atoms.
     pub fn intern(&mut self, t: TermId) -> Result<AtomId, OutOfMemory>
@@ -109,4 +119,16 @@ impl AtomBase {
     {
         self.atoms.truncate(mark.len as usize);
     }
+}
+
+fn any_large(terms: &Terms, atoms: &[TermId]) -> bool
+    requires { All (λ t. t < length terms.now) atoms.now }
+    ensures { IsTrue result ↔ Any (λ t. IsLarge (term_at terms.now t)) atoms.now }
+{
+    for atom in atoms {
+        if terms.size(*atom) > MOST_SYMBOLS {
+            return true;
+        }
+    }
+    false
 }

@@ -1,6 +1,6 @@
 use ms_base::seq::{Bytes, Seq};
-use ms_grammar::value::{Value, Values};
 pub use ms_base::truth::Truth;
+use ms_grammar::value::{Value, Values};
 
 /// A part of a program, with a value for each of its parameters.
 #[derive(Debug, Drop)]

@@ -1,94 +1,164 @@
--- Uses that come to others.
-use Rattle.std.proofs.Common.{◌≡◌, ◌<◌, ◌⊎◌, ℕ, List, [], ◌∷◌, ◌++◌, Option, Some, All, Contains, inl, inr, refl, sym, ap, subst, ◌∙◌, IsSomeAnd, get_or, arith}
-use Rattle.std.proofs.lemmas.List.Elements.{Contains-append_cases, Contains-append_left, Contains-push, Contains-push_cases, All-contains}
+-- Links that come to others.
+use Rattle.std.proofs.Common.{◌≡◌, ◌<◌, ◌⊎◌, ℕ, List, [], ◌∷◌, ◌++◌, Some, None, All, Any, Contains, get_or, inl, inr, refl, sym, ap, ◌∙◌}
+use Rattle.std.specs.Prelude.{length}
 use Rattle.std.proofs.lemmas.List.Quantifiers.{Any-push}
 use Rattle.std.proofs.lemmas.List.{get_or_default}
-use Rattle.std.proofs.lemmas.Option.{same_Some, none-some}
+use Rattle.std.proofs.lemmas.Option.{none-some, same_Some}
 use Rattle.ms_join.specs.declared.ground_rule.GroundRule.{GroundRule}
-use Rattle.ms_join.specs.declared.ground_rule.GroundKind.{GroundKind}
-use Rattle.ms_join.specs.declared.ground_rule.GroundKind.TheVariants.{Normal, Choice, Constraint}
-use Rattle.ms_join.specs.AnswerSets.{IsRuleOver, HasHead}
+use Rattle.ms_join.specs.AnswerSets.{IsRuleOver}
 use Rattle.ms_join.specs.Dependencies.{Depends}
-use Rattle.ms_cone.specs.declared.uses.Use.{Use}
-use Rattle.ms_cone.specs.Uses.{IsFor, IsUse, Keeps, AddsUses, HaveHeadsBelow}
-use Rattle.ms_cone.proofs.Walks.{depends_left}
+use Rattle.ms_cone.specs.declared.links.Link.{Link}
+use Rattle.ms_cone.specs.Links.{Leads, IsLinked, AddsLinks}
+use Rattle.ms_cone.specs.Dependencies.{Linked, Keeps, Adds, IsBelow, NeedsInSigned}
+use Rattle.ms_cone.proofs.Elements.{any_left, any_push_cases, any_from_contains, contains_from_any}
+use Rattle.ms_cone.proofs.Walks.{DependsBy, by_rule, rule_of, depends_below, depends_left}
 
-kept_push : (uses : List Use) (u : Use) (a b : ℕ) → IsUse uses a b → IsUse (uses ++ u ∷ []) a b
-kept_push uses u a b (k, found, within, at, is) =
-    let there : Contains (uses ++ u ∷ []) found = Contains-append_left uses (u ∷ []) found (k, within, at) in
-    (there.0, found, there.1, there.2, is)
-
-only_push : (uses : List Use) (u : Use) (a b : ℕ) → IsUse (uses ++ u ∷ []) a b → IsUse uses a b ⊎ IsFor a b u
-only_push uses u a b (k, found, within, at, is) = elim (Contains-push_cases uses u found (k, within, at)) [
-  | inl there ↦ inl (there.0, found, there.1, there.2, is)
-  | inr last ↦ inr (subst (λ x. IsFor a b x) (sym last) is)
-]
-
-only_itself : (b c : ℕ) → Contains (b ∷ []) c → c ≡ b
-only_itself b c here = elim (Contains-push_cases [] b c here) [
-  | inl none ↦ absurd (let lt = none.1 in omega (arith, lt))
-  | inr last ↦ sym last
-]
-
--- one use comes to the others
-pub adds_one : (uses : List Use) (u : Use) (a b : ℕ) → u.head ≡ a → u.atom ≡ b → AddsUses uses (uses ++ u ∷ []) (Some a) (b ∷ [])
-adds_one uses u a b head atom = record {
-  kept = kept_push uses u;
-  each = λ x y is here. Any-push (IsFor x y) uses u (record { head = head ∙ same_Some a x is; atom = atom ∙ sym (only_itself b y here) });
-  only = λ x y is. elim (only_push uses u x y is) [
+-- one link comes to the others
+pub adds_link : (links : List Link) (l : Link) → AddsLinks links (links ++ l ∷ []) (λ a b. (a ≡ l.from) × (b ≡ l.to))
+adds_link links l = record {
+  kept = λ a b. any_left (Leads a b) links (l ∷ []);
+  each = λ a b is. Any-push (Leads a b) links l (record { from = sym is.0; to = sym is.1 });
+  only = λ a b is. elim (any_push_cases (Leads a b) links l is) [
     | inl there ↦ inl there
-    | inr new ↦ inr (ap Some (sym head ∙ new.head), subst (λ z. Contains (b ∷ []) z) (sym atom ∙ new.atom) (Contains-push [] b))
+    | inr last ↦ inr (sym last.from, sym last.to)
   ];
 }
 
-pub adds_more : (old mid new : List Use) (head : Option ℕ) (atoms : List ℕ) (b : ℕ) → AddsUses old mid head atoms → AddsUses mid new head (b ∷ []) → AddsUses old new head (atoms ++ b ∷ [])
-adds_more old mid new head atoms b first then = record {
-  kept = λ x y is. then.kept x y (first.kept x y is);
-  each = λ x y is here. elim (Contains-append_cases atoms (b ∷ []) y here) [
-    | inl there ↦ then.kept x y (first.each x y is there)
-    | inr last ↦ then.each x y is last
+links_then : (old mid new : List Link) (P Q R : ℕ → ℕ → Type 0) → AddsLinks old mid P → AddsLinks mid new Q
+    → ((a b : ℕ) → P a b → R a b) → ((a b : ℕ) → Q a b → R a b) → ((a b : ℕ) → R a b → P a b ⊎ Q a b) → AddsLinks old new R
+links_then old mid new P Q R first then from_p from_q cases = record {
+  kept = λ a b is. then.kept a b (first.kept a b is);
+  each = λ a b is. elim (cases a b is) [
+    | inl p ↦ then.kept a b (first.each a b p)
+    | inr q ↦ then.each a b q
   ];
-  only = λ x y is. elim (then.only x y is) [
-    | inl there ↦ elim (first.only x y there) [
+  only = λ a b is. elim (then.only a b is) [
+    | inl there ↦ elim (first.only a b there) [
       | inl before ↦ inl before
-      | inr new ↦ inr (new.0, Contains-append_left atoms (b ∷ []) y new.1)
+      | inr p ↦ inr (from_p a b p)
     ]
-    | inr new ↦ inr (new.0, subst (λ z. Contains (atoms ++ b ∷ []) z) (sym (only_itself b y new.1)) (Contains-push atoms b))
+    | inr q ↦ inr (from_q a b q)
   ];
 }
 
-by_rule : (rules : List GroundRule) (rule : GroundRule) (a b : ℕ) → rule.head ≡ Some a → Contains rule.pos b → Depends (rules ++ rule ∷ []) a b
-by_rule rules rule a b head atom = Any-push (λ (r : GroundRule). (r.head ≡ Some a) × Contains r.pos b) rules rule (head, atom)
-
-last_rule : (rules : List GroundRule) (rule : GroundRule) (a b : ℕ) → Depends (rules ++ rule ∷ []) a b → Depends rules a b ⊎ ((rule.head ≡ Some a) × Contains rule.pos b)
-last_rule rules rule a b (k, found, within, at, is) = elim (Contains-push_cases rules rule found (k, within, at)) [
-  | inl there ↦ inl (there.0, found, there.1, there.2, is)
-  | inr last ↦ inr (subst (λ (r : GroundRule). (r.head ≡ Some a) × Contains r.pos b) (sym last) is)
-]
-
--- the uses of one more rule come to the others
-pub keeps_more : (old new : List Use) (rules : List GroundRule) (rule : GroundRule) → Keeps old rules → AddsUses old new rule.head rule.pos → Keeps new (rules ++ rule ∷ [])
-keeps_more old new rules rule keeps adds = record {
-  each = λ a b depends. elim (last_rule rules rule a b depends) [
-    | inl before ↦ adds.kept a b (keeps.each a b before)
-    | inr last ↦ adds.each a b last.0 last.1
-  ];
-  only = λ a b is. elim (adds.only a b is) [
-    | inl before ↦ depends_left rules (rule ∷ []) a b (keeps.only a b before)
-    | inr last ↦ by_rule rules rule a b last.0 last.1
-  ];
+-- nothing comes
+pub adds_none : (d : Linked) (Is : ℕ → ℕ → Type 0) → ((a b : ℕ) → ¬ Is a b) → Adds d d Is
+adds_none d Is none = record {
+  needs = record { kept = λ a b is. is; each = λ a b is. absurd (none a b is); only = λ a b is. inl is };
+  uses = record { kept = λ a b is. is; each = λ b a is. absurd (none a b is); only = λ a b is. inl is };
 }
 
-head_below : (n : ℕ) (kind : GroundKind) (head : Option ℕ) (a : ℕ) → HasHead n kind head → head ≡ Some a → a < n
-head_below n Normal head a has is = subst (λ h. IsSomeAnd h (λ x. x < n)) is has
-head_below n Choice head a has is = subst (λ h. IsSomeAnd h (λ x. x < n)) is has
-head_below n Constraint head a has is = absurd (none-some a (sym has ∙ is))
+-- a link of each direction
+pub adds_one : (old new : Linked) (head atom : ℕ) → AddsLinks old.needs new.needs (λ a b. (a ≡ head) × (b ≡ atom)) → AddsLinks old.uses new.uses (λ a b. (a ≡ atom) × (b ≡ head)) → Adds old new (λ a b. (a ≡ head) × (b ≡ atom))
+adds_one old new head atom needs uses = record {
+  needs = needs;
+  uses = record {
+    kept = uses.kept;
+    each = λ b a is. uses.each b a (is.1, is.0);
+    only = λ b a is. elim (uses.only b a is) [ inl there ↦ inl there | inr this ↦ inr (this.1, this.0) ];
+  };
+}
 
--- the heads of rules are below the number of atoms
-pub heads_below : (atoms : ℕ) (uses : List Use) (rules : List GroundRule) → Keeps uses rules → All (IsRuleOver atoms) rules → HaveHeadsBelow atoms uses
-heads_below atoms uses rules keeps over k d within =
-    let u = get_or uses k d in
-    let depends : Depends rules u.head u.atom = keeps.only u.head u.atom (k, u, within, get_or_default uses k u d within, record { head = refl; atom = refl }) in
-    let rule = depends.1 in
-    let is_over : IsRuleOver atoms rule = All-contains (IsRuleOver atoms) rules rule over (depends.0, depends.2, depends.3) in
-    head_below atoms rule.kind rule.head u.head is_over.head depends.4.0
+-- first these come and then those
+pub adds_then : (old mid new : Linked) (P Q R : ℕ → ℕ → Type 0) → Adds old mid P → Adds mid new Q
+    → ((a b : ℕ) → P a b → R a b) → ((a b : ℕ) → Q a b → R a b) → ((a b : ℕ) → R a b → P a b ⊎ Q a b) → Adds old new R
+adds_then old mid new P Q R first then from_p from_q cases = record {
+  needs = links_then old.needs mid.needs new.needs P Q R first.needs then.needs from_p from_q cases;
+  uses = links_then old.uses mid.uses new.uses (λ b a. P a b) (λ b a. Q a b) (λ b a. R a b) first.uses then.uses (λ b a. from_p a b) (λ b a. from_q a b) (λ b a. cases a b);
+}
+
+-- the atoms of one more element
+pub adds_push : {X : Type 0} (P : ℕ → X → Type 0) (old mid new : Linked) (head : ℕ) (xs : List X) (x : X) → Adds old mid (λ a b. (a ≡ head) × Any (P b) xs) → Adds mid new (λ a b. (a ≡ head) × P b x)
+    → Adds old new (λ a b. (a ≡ head) × Any (P b) (xs ++ x ∷ []))
+adds_push P old mid new head xs x first then =
+    adds_then old mid new (λ a b. (a ≡ head) × Any (P b) xs) (λ a b. (a ≡ head) × P b x) (λ a b. (a ≡ head) × Any (P b) (xs ++ x ∷ [])) first then
+    (λ a b is. (is.0, any_left (P b) xs (x ∷ []) is.1))
+    (λ a b is. (is.0, Any-push (P b) xs x is.1))
+    (λ a b is. elim (any_push_cases (P b) xs x is.1) [
+      | inl there ↦ inl (is.0, there)
+      | inr last ↦ inr (is.0, last)
+    ])
+
+pub adds_same : (old new : Linked) (P Q : ℕ → ℕ → Type 0) → ((a b : ℕ) → P a b → Q a b) → ((a b : ℕ) → Q a b → P a b) → Adds old new P → Adds old new Q
+adds_same old new P Q forth back adds = record {
+  needs = record {
+    kept = adds.needs.kept;
+    each = λ a b is. adds.needs.each a b (back a b is);
+    only = λ a b is. elim (adds.needs.only a b is) [ inl there ↦ inl there | inr p ↦ inr (forth a b p) ];
+  };
+  uses = record {
+    kept = adds.uses.kept;
+    each = λ b a is. adds.uses.each b a (back a b is);
+    only = λ b a is. elim (adds.uses.only b a is) [ inl there ↦ inl there | inr p ↦ inr (forth a b p) ];
+  };
+}
+
+-- the atoms of a list, as elements that are equal to one
+pub adds_atoms : (old new : Linked) (head : ℕ) (atoms : List ℕ) → Adds old new (λ a b. (a ≡ head) × Any (λ x. b ≡ x) atoms) → Adds old new (λ a b. (a ≡ head) × Contains atoms b)
+adds_atoms old new head atoms = adds_same old new (λ a b. (a ≡ head) × Any (λ x. b ≡ x) atoms) (λ a b. (a ≡ head) × Contains atoms b)
+    (λ a b is. (is.0, contains_from_any atoms b is.1))
+    (λ a b is. (is.0, any_from_contains atoms b is.1))
+
+pub atoms_added : (old new : Linked) (head : ℕ) (atoms : List ℕ) → Adds old new (λ a b. (a ≡ head) × Contains atoms b) → Adds old new (λ a b. (a ≡ head) × Any (λ x. b ≡ x) atoms)
+atoms_added old new head atoms = adds_same old new (λ a b. (a ≡ head) × Contains atoms b) (λ a b. (a ≡ head) × Any (λ x. b ≡ x) atoms)
+    (λ a b is. (is.0, any_from_contains atoms b is.1))
+    (λ a b is. (is.0, contains_from_any atoms b is.1))
+
+-- the atoms of a rule
+pub adds_rule : (old mid new : Linked) (rule : GroundRule) (head : ℕ) → rule.head ≡ Some head → Adds old mid (λ a b. (a ≡ head) × Contains rule.pos b) → Adds mid new (λ a b. (a ≡ head) × Any (NeedsInSigned b) rule.aggs)
+    → Adds old new (λ a b. DependsBy a b rule)
+adds_rule old mid new rule head at first then =
+    let same : (a : ℕ) → rule.head ≡ Some a → a ≡ head = λ a is. same_Some a head (sym is ∙ at) in
+    adds_then old mid new (λ a b. (a ≡ head) × Contains rule.pos b) (λ a b. (a ≡ head) × Any (NeedsInSigned b) rule.aggs) (λ a b. DependsBy a b rule) first then
+    (λ a b is. (at ∙ ap Some (sym is.0), inl is.1))
+    (λ a b is. (at ∙ ap Some (sym is.0), inr is.1))
+    (λ a b is. elim is.1 [
+      | inl pos ↦ inl (same a is.0, pos)
+      | inr inside ↦ inr (same a is.0, inside)
+    ])
+
+-- a rule without a head
+pub adds_headless : (d : Linked) (rule : GroundRule) → rule.head ≡ None → Adds d d (λ a b. DependsBy a b rule)
+adds_headless d rule none = adds_none d (λ a b. DependsBy a b rule) (λ a b is. none-some a (sym none ∙ is.0))
+
+-- the dependencies of one more rule come to the others
+pub keeps_more : (old new : Linked) (rules : List GroundRule) (rule : GroundRule) → Keeps old rules → Adds old new (λ a b. DependsBy a b rule) → Keeps new (rules ++ rule ∷ [])
+keeps_more old new rules rule keeps adds =
+    let all = rules ++ rule ∷ [] in
+    let last : (a b : ℕ) → DependsBy a b rule → Depends all a b = λ a b is. by_rule all a b (Any-push (DependsBy a b) rules rule is) in
+    let cases : (a b : ℕ) → Depends all a b → Depends rules a b ⊎ DependsBy a b rule = λ a b is. elim (any_push_cases (DependsBy a b) rules rule (rule_of all a b is)) [
+      | inl there ↦ inl (by_rule rules a b there)
+      | inr here ↦ inr here
+    ] in
+    record {
+      needs = λ a b. (
+        λ is. elim (adds.needs.only a b is) [
+          | inl before ↦ depends_left rules (rule ∷ []) a b ((keeps.needs a b).0 before)
+          | inr here ↦ last a b here
+        ],
+        λ is. elim (cases a b is) [
+          | inl before ↦ adds.needs.kept a b ((keeps.needs a b).1 before)
+          | inr here ↦ adds.needs.each a b here
+        ],
+      );
+      uses = λ a b. (
+        λ is. elim (adds.uses.only b a is) [
+          | inl before ↦ depends_left rules (rule ∷ []) a b ((keeps.uses a b).0 before)
+          | inr here ↦ last a b here
+        ],
+        λ is. elim (cases a b is) [
+          | inl before ↦ adds.uses.kept b a ((keeps.uses a b).1 before)
+          | inr here ↦ adds.uses.each b a here
+        ],
+      );
+    }
+
+linked_at : (links : List Link) (k : ℕ) (d : Link) → k < length links → IsLinked links (get_or links k d).from (get_or links k d).to
+linked_at links k d within = let l = get_or links k d in (k, l, within, get_or_default links k l d within, record { from = refl; to = refl })
+
+-- the links of rules lead to atoms below their number
+pub keeps_below : (atoms : ℕ) (d : Linked) (rules : List GroundRule) → Keeps d rules → All (IsRuleOver atoms) rules → IsBelow atoms d
+keeps_below atoms d rules keeps over = record {
+  needs = λ k e within. let l = get_or d.needs k e in (depends_below atoms rules l.from l.to over ((keeps.needs l.from l.to).0 (linked_at d.needs k e within))).atom;
+  uses = λ k e within. let l = get_or d.uses k e in (depends_below atoms rules l.to l.from over ((keeps.uses l.to l.from).0 (linked_at d.uses k e within))).head;
+}

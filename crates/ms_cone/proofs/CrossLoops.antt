@@ -3,22 +3,21 @@ use Rattle.std.proofs.Common.{◌<◌, ◌⊎◌, ℕ, zero, suc, ◌++◌, Cont
 use Rattle.std.proofs.lemmas.List.Elements.{All-contains}
 use Rattle.ms_join.specs.declared.ground_rule.GroundRule.{GroundRule}
 use Rattle.ms_join.specs.declared.ground_module.GroundModule.{GroundModule}
-use Rattle.ms_join.specs.AnswerSets.{IsRuleOver}
 use Rattle.ms_join.specs.Modules.{Join, IsJoin, IsWellFormed}
-use Rattle.ms_join.specs.Dependencies.{Depends, Walk, Reaches}
+use Rattle.ms_join.specs.Dependencies.{AreTogether, Depends, Walk, Reaches}
 use Rattle.ms_join.specs.Composability.{LoopsWith, IsInLoop}
-use Rattle.ms_cone.proofs.Walks.{reaches_self, reaches_more, reaches_through, depends_cases}
+use Rattle.ms_cone.proofs.Walks.{depends_below, depends_cases, reaches_self, reaches_more, reaches_through, rule_of}
 
 -- a head of the module in the old base
 pub record IsOldHead (j : Join) (m : GroundModule) (a : ℕ) : Type 0 where
   pub head : Contains m.heads a
   pub within : a < j.atoms
 
--- the atom reaches a head in the old base
-pub record ReachesOldHead (j : Join) (m : GroundModule) (a : ℕ) : Type 0 where
+-- the atom is in one component with a head in the old base
+pub record IsWithOldHead (j : Join) (m : GroundModule) (a : ℕ) : Type 0 where
   pub through : ℕ
   pub is_head : IsOldHead j m through
-  pub reaches : Reaches (j.rules ++ m.rules) a through
+  pub together : AreTogether (j.rules ++ m.rules) a through
 
 -- a walk from the one atom to the other passes such a head
 record Passes (j : Join) (m : GroundModule) (a b : ℕ) : Type 0 where
@@ -32,14 +31,10 @@ record StaysOld (j : Join) (m : GroundModule) (a b : ℕ) : Type 0 where
   within : b < j.atoms
   reaches : Reaches (j.rules ++ m.rules) a b
 
-old_below : (j : Join) → IsJoin j → (a b : ℕ) → Depends j.rules a b → b < j.atoms
-old_below j is a b (k, rule, within, at, depends) =
-    let over : IsRuleOver j.atoms rule = All-contains (IsRuleOver j.atoms) j.rules rule is.over.rules (k, within, at) in
-    All-contains (λ x. x < j.atoms) rule.pos b over.pos depends.1
-
 new_head : (j : Join) (m : GroundModule) → IsWellFormed j.atoms m → (a b : ℕ) → Depends m.rules a b → Contains m.heads a
-new_head j m formed a b (k, rule, within, at, depends) =
-    subst (λ h. IfSome h (Contains m.heads)) depends.0 (All-contains (λ (r : GroundRule). IfSome r.head (Contains m.heads)) m.rules rule formed.headed (k, within, at))
+new_head j m formed a b depends =
+    let (k, rule, within, at, is) = rule_of m.rules a b depends in
+    subst (λ h. IfSome h (Contains m.heads)) is.0 (All-contains (λ (r : GroundRule). IfSome r.head (Contains m.heads)) m.rules rule formed.headed (k, within, at))
 
 walk_old : (j : Join) (m : GroundModule) → IsJoin j → IsWellFormed j.atoms m → (steps a b : ℕ) → a < j.atoms → Walk (j.rules ++ m.rules) steps a b → Passes j m a b ⊎ StaysOld j m a b
 unfolding Walk
@@ -51,7 +46,7 @@ walk_old j m is formed (suc steps) a b old walk =
     elim (walk_old j m is formed steps a c old walk.1) [
       | inl passes ↦ inl (record { through = passes.through; is_head = passes.is_head; forth = passes.forth; on = reaches_more rules passes.through c b passes.on walk.2 })
       | inr stays ↦ elim (depends_cases j.rules m.rules c b walk.2) [
-        | inl by_old ↦ inr (record { within = old_below j is c b by_old; reaches = reaches_more rules a c b stays.reaches walk.2 })
+        | inl by_old ↦ inr (record { within = (depends_below j.atoms j.rules c b is.over.rules by_old).atom; reaches = reaches_more rules a c b stays.reaches walk.2 })
         | inr by_new ↦ inl (record {
           through = c;
           is_head = record { head = new_head j m formed c b by_new; within = stays.within };
@@ -61,28 +56,29 @@ walk_old j m is formed (suc steps) a b old walk =
       ]
     ]
 
--- both atoms of a loop across modules reach a head in the old base
-pub record BothReachOldHead (j : Join) (m : GroundModule) (a b : ℕ) : Type 0 where
-  pub new : ReachesOldHead j m a
-  pub old : ReachesOldHead j m b
+-- both atoms of a loop across modules are in one component with a head in the old base
+pub record AreWithOldHead (j : Join) (m : GroundModule) (a b : ℕ) : Type 0 where
+  pub new : IsWithOldHead j m a
+  pub old : IsWithOldHead j m b
 
-pub loop_reaches_old_head : (j : Join) (m : GroundModule) (a b : ℕ) → IsJoin j → IsWellFormed j.atoms m → Contains m.heads a → LoopsWith j m a b → BothReachOldHead j m a b
-loop_reaches_old_head j m a b is formed head loops =
+pub loop_has_old_head : (j : Join) (m : GroundModule) (a b : ℕ) → IsJoin j → IsWellFormed j.atoms m → Contains m.heads a → LoopsWith j m a b → AreWithOldHead j m a b
+loop_has_old_head j m a b is formed head loops =
     let rules = j.rules ++ m.rules in
+    let forth = loops.together.forth in
     let back = loops.together.back in
     elim (walk_old j m is formed back.steps b a loops.output.within back.walk) [
       | inl passes ↦ record {
-        new = record { through = passes.through; is_head = passes.is_head; reaches = reaches_through rules a b passes.through loops.together.forth passes.forth };
-        old = record { through = passes.through; is_head = passes.is_head; reaches = passes.forth };
+        new = record { through = passes.through; is_head = passes.is_head; together = record { forth = reaches_through rules a b passes.through forth passes.forth; back = passes.on } };
+        old = record { through = passes.through; is_head = passes.is_head; together = record { forth = passes.forth; back = reaches_through rules passes.through a b passes.on forth } };
       }
       | inr stays ↦ record {
-        new = record { through = a; is_head = record { head = head; within = stays.within }; reaches = reaches_self rules a };
-        old = record { through = a; is_head = record { head = head; within = stays.within }; reaches = back };
+        new = record { through = a; is_head = record { head = head; within = stays.within }; together = record { forth = reaches_self rules a; back = reaches_self rules a } };
+        old = record { through = a; is_head = record { head = head; within = stays.within }; together = record { forth = back; back = forth } };
       }
     ]
 
 -- where no head is in the old base there is no loop across modules
 pub no_loop_without_old_head : (j : Join) (m : GroundModule) → IsJoin j → IsWellFormed j.atoms m → ((h : ℕ) → ¬ IsOldHead j m h) → (a : ℕ) → ¬ IsInLoop j m a
 no_loop_without_old_head j m is formed none a in_loop =
-    let both = loop_reaches_old_head j m a in_loop.loops.0 is formed in_loop.head in_loop.loops.1 in
+    let both = loop_has_old_head j m a in_loop.loops.0 is formed in_loop.head in_loop.loops.1 in
     none both.new.through both.new.is_head

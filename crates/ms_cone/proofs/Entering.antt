@@ -1,11 +1,11 @@
 -- An atom comes to the members of a search.
-use Rattle.std.proofs.Common.{◌≡◌, ◌<◌, ◌≤◌, ◌⊎◌, ℕ, zero, suc, List, [], ◌∷◌, ◌++◌, Some, Bool, true, false, if◌then◌else◌, All, Contains, slice_get, get_or, nat_eq, inl, inr, refl, sym, ap, subst, ◌∙◌, length, arith}
+use Rattle.std.proofs.Common.{◌≡◌, ◌<◌, ◌≤◌, ◌+◌, ◌⊎◌, ℕ, zero, suc, List, [], ◌∷◌, ◌++◌, Some, Bool, true, false, if◌then◌else◌, All, Contains, slice_get, get_or, nat_eq, inl, inr, refl, sym, ap, subst, ◌∙◌, length, arith}
 use Rattle.std.specs.List.{list_any, IsDistinct}
 use Rattle.std.proofs.lemmas.Bool.Decides.{Decides-eqb}
 use Rattle.std.proofs.lemmas.Bool.{cases_lt}
 use Rattle.std.proofs.lemmas.Option.{none-some, slice_get_within, slice_get-get_or}
 use Rattle.std.proofs.lemmas.Map.Views.{Contains-from_any}
-use Rattle.std.proofs.lemmas.List.Elements.{All-weaker, All-push, All-contains, Contains-push, Contains-push_cases, Contains-append_left}
+use Rattle.std.proofs.lemmas.List.Elements.{All-weaker, All-push, All-contains, Contains-push_cases}
 use Rattle.std.proofs.lemmas.Map.Steps.{length-le_from_distinct_below}
 use Rattle.indexmap.specs.IndexSet.{insert_key}
 use Rattle.ms_graph.specs.Components.{HasEndsBelow}
@@ -51,6 +51,7 @@ grows_longer old new Is grows = elim (cases_lt (length new) (length old)) [
 pub entered : (old : Found) (new : List ℕ) (a place k : ℕ) → new ≡ insert_key nat_eq old.members a → IsFound old → slice_get new place ≡ Some k → nat_eq a k ≡ true → Enters old (record old { members = new }) a place
 entered old new a place k members found stored equal = record {
   atoms = refl;
+  visited = refl;
   edges = refl;
   members = grows_inserted (list_any (nat_eq a) old.members) old.members new a members;
   at = stored ∙ ap Some (sym ((Decides-eqb a k).0 equal));
@@ -71,6 +72,7 @@ found_more old new a members found once less =
       fits = length-le_from_distinct_below new old.atoms once (λ q. below_from_all new old.atoms q below);
       small = found.small;
       graph = All-weaker (HasEndsBelow (length old.members)) (HasEndsBelow (length new)) (λ e ends. let start = ends.start in let end = ends.end in record { start = omega (arith, start, longer); end = omega (arith, end, longer) }) old.edges found.graph;
+      within = let within = found.within in omega (arith, within, longer);
     }
 
 -- an edge comes
@@ -81,6 +83,18 @@ found_edge s from to found start end = record {
   fits = found.fits;
   small = found.small;
   graph = All-push (HasEndsBelow (length s.members)) s.edges (record { from = from; to = to }) found.graph (record { start = start; end = end });
+  within = found.within;
+}
+
+-- one more member was visited
+pub found_passed : (s : Found) → IsFound s → s.visited < length s.members → IsFound (record s { visited = s.visited + 1 })
+found_passed s found some = record {
+  once = found.once;
+  below = found.below;
+  fits = found.fits;
+  small = found.small;
+  graph = found.graph;
+  within = omega (arith, some);
 }
 
 -- the members after one more start
@@ -91,9 +105,6 @@ start_more starts old new a place start enters = record {
         contains_at new.members before.0 b (enters.members.kept before.0 b (at_contains old.members b before))
     | inr last ↦ subst (λ x. Contains new.members x) last (contains_at new.members place a enters.at)
   ];
-  only = λ i b at. elim (enters.members.only i b at) [
-    | inl there ↦ Contains-append_left starts (a ∷ []) b (start.only i b there)
-    | inr new_one ↦ subst (λ x. Contains (starts ++ a ∷ []) x) (sym new_one.0) (Contains-push starts a)
-  ];
   edges = enters.edges ∙ start.edges;
+  visited = enters.visited ∙ start.visited;
 }

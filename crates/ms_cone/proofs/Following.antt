@@ -1,4 +1,4 @@
--- The atoms that lead to a member are found.
+-- The atoms to which a member leads are found.
 use Rattle.std.proofs.Common.{◌≡◌, ◌<◌, ◌≤◌, ◌-◌, ◌⊎◌, ℕ, List, [], ◌∷◌, ◌++◌, Some, Contains, slice_get, get_or, inl, inr, refl, sym, ap, subst, ◌∙◌, length, arith}
 use Rattle.std.proofs.lemmas.Bool.{cases_lt}
 use Rattle.std.proofs.lemmas.List.{get_or_default}
@@ -6,9 +6,9 @@ use Rattle.std.proofs.lemmas.Option.{same_Some}
 use Rattle.std.proofs.lemmas.List.Elements.{All-contains, Contains-push, Contains-push_cases, Contains-append_left}
 use Rattle.ms_graph.specs.declared.edge.Edge.{Edge}
 use Rattle.ms_graph.specs.Components.{HasEndsBelow}
-use Rattle.ms_cone.specs.declared.uses.Use.{Use}
-use Rattle.ms_cone.specs.Uses.{IsFor, IsUse}
-use Rattle.ms_cone.specs.Chains.{IsLast, IsUseFrom}
+use Rattle.ms_cone.specs.declared.links.Link.{Link}
+use Rattle.ms_cone.specs.Links.{Leads, IsLinked}
+use Rattle.ms_cone.specs.Chains.{IsLast, IsLinkedFrom}
 use Rattle.ms_cone.specs.Search.{Found, Grows, Enters, Follows}
 use Rattle.ms_cone.proofs.Entering.{grows_longer}
 
@@ -25,6 +25,7 @@ follows_one old mid atom place from b enters at =
     let new : Found = record mid { edges = mid.edges ++ last ∷ [] } in
     record {
       atoms = enters.atoms;
+      visited = enters.visited;
       members = enters.members;
       kept = λ x y edge. record {
         from = edge.from;
@@ -61,6 +62,7 @@ follows_one old mid atom place from b enters at =
 pub follows_none : (s : Found) (b : ℕ) (Is : ℕ → Type 0) → ((a : ℕ) → Is a → ⊥) → Follows s s b Is
 follows_none s b Is none = record {
   atoms = refl;
+  visited = refl;
   members = record { kept = λ i a at. at; only = λ i a at. inl at };
   kept = λ x y edge. edge;
   each = λ a is. absurd (none a is);
@@ -85,6 +87,7 @@ grows_both old mid new P Q R first then from_p from_q = record {
 pub follows_both : (old mid new : Found) (b : ℕ) (P Q R : ℕ → Type 0) → Follows old mid b P → Follows mid new b Q → ((a : ℕ) → P a → R a) → ((a : ℕ) → Q a → R a) → ((a : ℕ) → R a → P a ⊎ Q a) → Follows old new b R
 follows_both old mid new b P Q R first then from_p from_q cases = record {
   atoms = then.atoms ∙ first.atoms;
+  visited = then.visited ∙ first.visited;
   members = grows_both old.members mid.members new.members P Q R first.members then.members from_p from_q;
   kept = λ x y edge. then.kept x y (first.kept x y edge);
   each = λ a is. elim (cases a is) [
@@ -103,6 +106,7 @@ follows_both old mid new b P Q R first then from_p from_q cases = record {
 pub follows_same : (old new : Found) (b : ℕ) (P Q : ℕ → Type 0) → ((a : ℕ) → P a → Q a) → ((a : ℕ) → Q a → P a) → Follows old new b P → Follows old new b Q
 follows_same old new b P Q forth back follows = record {
   atoms = follows.atoms;
+  visited = follows.visited;
   members = record {
     kept = follows.members.kept;
     only = λ i a at. elim (follows.members.only i a at) [
@@ -118,45 +122,45 @@ follows_same old new b P Q forth back follows = record {
   ];
 }
 
-some_use : Use
-some_use = record { atom = 0; head = 0; before = 0 }
+some_link : Link
+some_link = record { from = 0; to = 0; before = 0 }
 
--- beyond the last use of an atom there is none
-pub follows_last : (uses : List Use) (s : Found) (b link : ℕ) → IsLast uses b (length uses) link → Follows s s b (λ a. IsUseFrom uses link a b)
-follows_last uses s b link last = follows_none s b (λ a. IsUseFrom uses link a b)
-    (λ a use_from. last.others use_from.place some_use use_from.from use_from.within (use_from.is some_use).atom)
+-- beyond the last link from an atom there is none
+pub follows_last : (links : List Link) (s : Found) (b place : ℕ) → IsLast links b (length links) place → Follows s s b (IsLinkedFrom links place b)
+follows_last links s b place last = follows_none s b (IsLinkedFrom links place b)
+    (λ a from. last.others from.place some_link from.after from.within (from.is some_link).from)
 
--- the use to which the link leads is followed
-pub follows_use : (uses : List Use) (old mid new : Found) (b link : ℕ) (u : Use) → 0 < link → link ≤ length uses → u ≡ get_or uses (link - 1) u → u.atom ≡ b → IsLast uses u.atom (link - 1) u.before → Follows old mid b (λ a. IsUseFrom uses link a b) → Follows mid new b (λ a. a ≡ u.head) → Follows old new b (λ a. IsUseFrom uses u.before a b)
-follows_use uses old mid new b link u some within at atom before first then =
+-- the link before the place is followed
+pub follows_link : (links : List Link) (old mid new : Found) (b place : ℕ) (l : Link) → 0 < place → place ≤ length links → l ≡ get_or links (place - 1) l → l.from ≡ b → IsLast links l.from (place - 1) l.before → Follows old mid b (IsLinkedFrom links place b) → Follows mid new b (λ a. a ≡ l.to) → Follows old new b (IsLinkedFrom links l.before b)
+follows_link links old mid new b place l some within at from before first then =
     let less = before.within in
-    let inside : link - 1 < length uses = omega (arith, some, within) in
-    let use_at : (d : Use) → get_or uses (link - 1) d ≡ u = λ d. get_or_default uses (link - 1) d u inside ∙ sym at in
-    follows_both old mid new b (λ a. IsUseFrom uses link a b) (λ a. a ≡ u.head) (λ a. IsUseFrom uses u.before a b) first then
-    (λ a is. let from = is.from in record { place = is.place; from = omega (arith, from, less, some); within = is.within; is = is.is })
+    let inside : place - 1 < length links = omega (arith, some, within) in
+    let link_at : (d : Link) → get_or links (place - 1) d ≡ l = λ d. get_or_default links (place - 1) d l inside ∙ sym at in
+    follows_both old mid new b (IsLinkedFrom links place b) (λ a. a ≡ l.to) (IsLinkedFrom links l.before b) first then
+    (λ a is. let after = is.after in record { place = is.place; after = omega (arith, after, less, some); within = is.within; is = is.is })
     (λ a is. record {
-      place = link - 1;
-      from = less;
+      place = place - 1;
+      after = less;
       within = inside;
-      is = λ d. subst (λ (x : Use). IsFor a b x) (sym (use_at d)) (record { head = sym is; atom = atom });
+      is = λ d. subst (λ (x : Link). Leads b a x) (sym (link_at d)) (record { from = from; to = sym is });
     })
-    (λ a is. elim (cases_lt is.place link) [
-      | inr more ↦ inl (record { place = is.place; from = more; within = is.within; is = is.is })
-      | inl fewer ↦ elim (cases_lt is.place (link - 1)) [
-        | inl earlier ↦ absurd (before.others is.place some_use is.from earlier ((is.is some_use).atom ∙ sym atom))
-        | inr this ↦ let same : is.place ≡ link - 1 = omega (arith, fewer, this, some) in
-            inr (sym (is.is u).head ∙ ap (λ (k : ℕ). (get_or uses k u).head) same ∙ ap (λ (x : Use). x.head) (use_at u))
+    (λ a is. elim (cases_lt is.place place) [
+      | inr more ↦ inl (record { place = is.place; after = more; within = is.within; is = is.is })
+      | inl fewer ↦ elim (cases_lt is.place (place - 1)) [
+        | inl earlier ↦ absurd (before.others is.place some_link is.after earlier ((is.is some_link).from ∙ sym from))
+        | inr this ↦ let same : is.place ≡ place - 1 = omega (arith, fewer, this, some) in
+            inr (sym (is.is l).to ∙ ap (λ (k : ℕ). (get_or links k l).to) same ∙ ap (λ (x : Link). x.to) (link_at l))
       ]
     ])
 
--- all uses were followed
-pub follows_uses : (uses : List Use) (old new : Found) (b link : ℕ) → link ≡ 0 → Follows old new b (λ a. IsUseFrom uses link a b) → Follows old new b (λ a. IsUse uses a b)
-follows_uses uses old new b link none follows =
-    let use_of : (a : ℕ) → IsUseFrom uses link a b → IsUse uses a b = λ a is. (is.place, get_or uses is.place some_use, is.within, get_or_default uses is.place (get_or uses is.place some_use) some_use is.within, is.is some_use) in
-    let from_use : (a : ℕ) → IsUse uses a b → IsUseFrom uses link a b = λ a is. record {
+-- all links were followed
+pub follows_links : (links : List Link) (old new : Found) (b place : ℕ) → place ≡ 0 → Follows old new b (IsLinkedFrom links place b) → Follows old new b (IsLinked links b)
+follows_links links old new b place none follows =
+    let linked : (a : ℕ) → IsLinkedFrom links place b a → IsLinked links b a = λ a is. (is.place, get_or links is.place some_link, is.within, get_or_default links is.place (get_or links is.place some_link) some_link is.within, is.is some_link) in
+    let from : (a : ℕ) → IsLinked links b a → IsLinkedFrom links place b a = λ a is. record {
       place = is.0;
-      from = omega (arith, none);
+      after = omega (arith, none);
       within = is.2;
-      is = λ d. subst (λ (x : Use). IsFor a b x) (sym (get_or_default uses is.0 d is.1 is.2 ∙ is.3)) is.4;
+      is = λ d. subst (λ (x : Link). Leads b a x) (sym (get_or_default links is.0 d is.1 is.2 ∙ is.3)) is.4;
     } in
-    follows_same old new b (λ a. IsUseFrom uses link a b) (λ a. IsUse uses a b) use_of from_use follows
+    follows_same old new b (IsLinkedFrom links place b) (IsLinked links b) linked from follows

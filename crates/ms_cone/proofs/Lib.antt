@@ -1,9 +1,11 @@
 pub mod Adding
 pub mod Chained
 pub mod CrossLoops
+pub mod Elements
 pub mod Entering
 pub mod Exploring
 pub mod Following
 pub mod Members
+pub mod Paths
 pub mod Reaching
 pub mod Walks

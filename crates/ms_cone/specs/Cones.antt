@@ -1,8 +1,8 @@
--- The atoms that reach given ones, with the numbers of their components.
-use Rattle.std.specs.Prelude.{ℕ, ◌≡◌, ◌^◌, ◌<◌, ◌↔◌, nat_eq, List, Option, Some, option_map, position, All, Any, Contains, length, slice_index}
+-- Atoms around given ones, with the numbers of their components.
+use Rattle.std.specs.Prelude.{ℕ, ◌≡◌, ◌^◌, ◌<◌, ◌↔◌, nat_eq, List, Option, Some, option_map, position, All, Contains, length, slice_index}
 use Rattle.std.specs.List.{IsDistinct}
 use Rattle.ms_join.specs.declared.ground_rule.GroundRule.{GroundRule}
-use Rattle.ms_join.specs.Dependencies.{Reaches, AreTogether}
+use Rattle.ms_join.specs.Dependencies.{AreTogether}
 
 -- atoms, and the number of each one's component in the same place
 pub record Numbered : Type 0 where
@@ -20,7 +20,8 @@ pub record IsNumbered (cone : Numbered) : Type 0 where
   pub below : All (λ number. number < length cone.members) cone.numbers
   pub few : length cone.members < 2 ^ 32
 
--- Exactly the atoms that reach a start are there, and exactly atoms of one component have equal numbers.
+-- Each start is there, and exactly the atoms of one component have equal numbers. So the whole component of each member
+-- is there.
 pub record IsCone (rules : List GroundRule) (starts : List ℕ) (cone : Numbered) : Type 0 where
-  pub members : (a : ℕ) → Contains cone.members a ↔ Any (Reaches rules a) starts
+  pub starts_are : (a : ℕ) → Contains starts a → Contains cone.members a
   pub components : (a b n : ℕ) → number_of cone a ≡ Some n → (number_of cone b ≡ Some n) ↔ AreTogether rules a b

@@ -1,4 +1,5 @@
 pub mod Chains
 pub mod Cones
+pub mod Dependencies
+pub mod Links
 pub mod Search
-pub mod Uses

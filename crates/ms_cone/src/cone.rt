@@ -1,13 +1,13 @@
-// The atoms that reach given ones.
+// The components of given atoms, with others around them.
 ghost use Rattle.std.specs.Prelude.{◌≡◌, ◌<◌, ◌++◌, ℕ, List, All, length, slice_get, slice_index, Some, IfOk};
 ghost use Rattle.ms_join.specs.declared.ground_rule.GroundRule.{GroundRule};
 ghost use Rattle.ms_join.specs.AnswerSets.{IsRuleOver};
 ghost use Rattle.ms_cone.specs.Search.{AreNumbered};
-ghost use Rattle.ms_cone.specs.Uses.{Keeps, HaveHeadsBelow};
+ghost use Rattle.ms_cone.specs.Dependencies.{IsBelow, Keeps};
 ghost use Rattle.ms_cone.specs.Cones.{IsCone, number_of};
 
-use crate::search::Search;
-use crate::uses::Dependencies;
+use crate::dependencies::Dependencies;
+use crate::search::{Search, first_whole};
 use indexmap::IndexSet;
 use ms_base::atom_id::AtomId;
 use ms_base::memory::OutOfMemory;
@@ -34,24 +34,25 @@ impl Model for Cone {
 }
 
 impl Cone {
-    /// The atoms that reach one of the starts by old rules, of which the uses are kept, and new ones. Two of them have
-    /// equal numbers exactly where they are in one component. All heads and starts are below the number of atoms. It fails
-    /// only for want of memory. Time and room grow with the new rules and with the uses of the atoms that are found.
-    pub fn reaching(
+    /// The components of the starts, and of others, by old rules, of which the dependencies are kept, and new ones. Two
+    /// members have equal numbers exactly where they are in one component. All atoms of the rules and all starts are below the
+    /// number of atoms. It fails only for want of memory. Time and room grow with the new rules, and with the lesser of
+    /// what the starts depend on and what depends on them.
+    pub fn around(
         alloc: Global,
         old: &Dependencies,
         new: &[GroundRule],
         atoms: u32,
         starts: &[AtomId],
     ) -> Result<Cone, OutOfMemory>
-        requires old { HaveHeadsBelow atoms old.now }
+        requires old { IsBelow atoms old.now }
         requires new { All (IsRuleOver atoms) new.now }
         requires starts { All (λ a. a < atoms) starts.now }
         ensures { IfOk result (λ cone. (rules : List GroundRule) → Keeps old.now rules → IsCone (rules ++ new.now) starts.now cone) }
     {
         let mut fresh = Dependencies::new(alloc);
         fresh.add(new)?;
-        let search = Search::whole(alloc, old, &fresh, atoms, starts)?;
+        let search = first_whole(alloc, old, &fresh, atoms, starts)?;
         Cone::numbered(alloc, search)
     }
 

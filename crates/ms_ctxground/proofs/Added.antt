@@ -5,7 +5,7 @@ use Rattle.std.specs.Prelude.{MatchOption, is_some}
 use Rattle.std.specs.List.{All, Contains}
 use Rattle.ms_tree.specs.Tree.{Tree}
 use Rattle.ms_atombase.specs.Bases.{IsPlaceOf}
-use Rattle.ms_order.specs.TermOrder.{IsInTermOrder}
+use Rattle.ms_term.specs.TermOrder.{IsInTermOrder}
 use Rattle.ms_ctxground.specs.NewAtoms.{AreAdded, IsNewOf}
 use Rattle.ms_ctxground.proofs.Numbered.{Contains-from_slice_get}
 

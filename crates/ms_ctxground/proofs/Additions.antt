@@ -17,7 +17,7 @@ use Rattle.ms_ctxground.specs.NewAtoms.{IsNewOf}
 use Rattle.ms_ctxground.proofs.GroundModules.{either_kind, outputs_of, externals_of}
 use Rattle.ms_ctxground.proofs.Heads.{to_heads}
 use Rattle.ms_ctxground.proofs.Members.{in_or_not}
-use Rattle.ms_order.proofs.TotalOrder.{compare_trees_total}
+use Rattle.ms_term.proofs.TotalOrder.{compare_trees_total}
 
 pub all_new : {table : List Tree} {old outputs externals names : List ℕ} → IsNewOf table old outputs externals names → All (λ n. Contains old n → ⊥) names
 all_new {table} {old} {outputs} {externals} {names} are k d within = ((are.members (get_or names k d)).0 (Contains-get_or names k d within)).1

@@ -1,9 +1,10 @@
 -- What grounding of rules without aggregates answers.
 use Rattle.std.proofs.Common.{◌≡◌, ℕ, ◌<◌, ◌≤◌, List, [], ◌∷◌, length, map, get_or, refl, sym, ap, subst, arith, ⊎_elim, inl, inr}
-use Rattle.std.proofs.lemmas.List.{length-map}
-use Rattle.std.proofs.lemmas.List.Elements.{All-head, All-tail, All-map, All-append, Contains-get_or}
+use Rattle.std.proofs.lemmas.Bool.{cases_lt}
+use Rattle.std.proofs.lemmas.List.{get_or_default, length-map}
+use Rattle.std.proofs.lemmas.List.Elements.{All-head, All-tail, All-map}
 use Rattle.std.specs.Prelude.{Result, Ok, Err, IsErrAnd}
-use Rattle.std.specs.List.{All}
+use Rattle.std.specs.List.{All, Any, Contains}
 use Rattle.ms_tree.specs.Tree.{Tree}
 use Rattle.ms_tree.specs.Size.{tree_size}
 use Rattle.ms_term.specs.Terms.{term_at}
@@ -24,7 +25,7 @@ use Rattle.ms_ctxground.specs.Grounds.{Grounds, IsBaseIn, IsGround, IsRefused}
 use Rattle.ms_ctxground.specs.Faults.{fault_of}
 use Rattle.ms_ctxground.specs.declared.fault.GroundFault.{GroundFault}
 use Rattle.ms_ctxground.specs.Growing.{IsGrownBy}
-use Rattle.ms_ctxground.specs.Sizes.{HasLargeHead}
+use Rattle.ms_ctxground.specs.Sizes.{HasLarge, HasLargeHead}
 use Rattle.ms_ctxground.proofs.Members.{Contains-map}
 use Rattle.ms_ctxground.proofs.Sized.{small_known, large_known}
 
@@ -38,13 +39,16 @@ module _ {old_table new_table : List Tree} (keeps : Keeps old_table new_table) w
       rw (first, rest)
 
   pub still_base : (names : List ℕ) → IsBaseIn old_table names → IsBaseIn new_table names
-  still_base names base = record {
-    named = λ k d within. let low = base.named k d within in omega (arith, keeps.longer);
-    small = λ k d within. rw (keeps.kept (get_or names k d) (base.named k d within)) (base.small k d within);
-  }
+  still_base names base k d within = let low = base k d within in omega (arith, keeps.longer)
 
-small_terms : (table : List Tree) (names : List ℕ) → IsBaseIn table names → All (λ t. tree_size t ≤ most_symbols) (map (term_at table) names)
-small_terms table names base = All-map (λ t. tree_size t ≤ most_symbols) (term_at table) names base.small
+-- where no atom of the base is large
+small_terms : (table : List Tree) (names : List ℕ) → (Any (λ n. most_symbols < tree_size (term_at table n)) names → ⊥) → All (λ t. tree_size t ≤ most_symbols) (map (term_at table) names)
+small_terms table names none =
+    All-map (λ t. tree_size t ≤ most_symbols) (term_at table) names (λ k d within.
+    ⊎_elim
+    (λ (large : most_symbols < tree_size (term_at table (get_or names k d))). absurd (none (k, get_or names k d, within, get_or_default names k (get_or names k d) d within, large)))
+    (λ (small : tree_size (term_at table (get_or names k d)) ≤ most_symbols). small)
+    (cases_lt most_symbols (tree_size (term_at table (get_or names k d)))))
 
 -- too many copies
 pub refused_copies : {rules : List CoreRule} {old_table new_table : List Tree} {old new : List ℕ} → ArePlain rules → Keeps old_table new_table → most_copies < length (all_said rules) → new ≡ old → IsRefused rules old_table new_table old new
@@ -57,20 +61,26 @@ module _ {rules : List CoreRule} {old_table new_table : List Tree} {list : List 
   pub all_headed : All (λ i. IsHeaded i.kind i.head) list
   all_headed = are.headed headed
 
-  -- a large head
-  pub refused_head : HasLargeHead new_table list → IsRefused rules old_table new_table old old
-  refused_head large =
-      let (t, known, is_large) = large_known new_table list old_terms all_headed large in
-      record {
-        keeps = are.keeps;
-        plain = plain;
-        large = inr (t, (known_by old_terms rules plain t).0 (subst (λ said. IsKnownBy old_terms said t) are.are.say known), is_large);
-        same = refl;
-      }
+  -- a large atom of the base
+  large_atom : Any (λ n. most_symbols < tree_size (term_at new_table n)) old → HasLargeAtom old_terms rules
+  large_atom (k, n, within, at, large) =
+      let there : Contains (map (term_at new_table) old) (term_at new_table n) = Contains-map (term_at new_table) old n (k, within, at) in
+      (term_at new_table n, inl (subst (λ ts. Contains ts (term_at new_table n)) (same_terms are.keeps old base) there), large)
 
-  module _ (none : HasLargeHead new_table list → ⊥) where
+  -- a large head
+  large_head : HasLargeHead new_table list → HasLargeAtom old_terms rules
+  large_head large =
+      let (t, known, is_large) = large_known new_table list old_terms all_headed large in
+      (t, (known_by old_terms rules plain t).0 (subst (λ said. IsKnownBy old_terms said t) are.are.say known), is_large)
+
+  pub refused_large : HasLarge new_table old list → IsRefused rules old_table new_table old old
+  refused_large large = record { keeps = are.keeps; plain = plain; large = inr (⊎_elim large_atom large_head large); same = refl }
+
+  module _ (none : HasLarge new_table old list → ⊥) where
     small : (t : Tree) → IsKnownBy old_terms (all_said rules) t → tree_size t ≤ most_symbols
-    small t known = small_known new_table list old_terms (small_terms old_table old base) none t (subst (λ said. IsKnownBy old_terms said t) (sym are.are.say) known)
+    small t known =
+        let smalls = small_terms new_table old (λ large. none (inl large)) in
+        small_known new_table list old_terms (subst (λ ts. All (λ t. tree_size t ≤ most_symbols) ts) (same_terms are.keeps old base) smalls) (λ large. none (inr large)) t (subst (λ said. IsKnownBy old_terms said t) (sym are.are.say) known)
 
     count_is : length (all_said rules) ≤ most_copies
     count_is = let e : length (map (said_by new_table) list) ≡ length (all_said rules) = ap length are.are.say in omega (arith, length-map list (said_by new_table), are.are.few)
@@ -86,20 +96,14 @@ module _ {rules : List CoreRule} {old_table new_table : List Tree} {list : List 
     is_ground {new} {m} grown =
         let by_names : IsModuleBy old_terms (all_said rules) (map (term_at new_table) m.names) m =
         subst (λ said. IsModuleBy old_terms said (map (term_at new_table) m.names) m) are.are.say
-        (subst (λ ts. IsModuleBy ts (map (said_by new_table) list) (map (term_at new_table) m.names) m) (same_terms are.keeps old base.named) grown.is) in
+        (subst (λ ts. IsModuleBy ts (map (said_by new_table) list) (map (term_at new_table) m.names) m) (same_terms are.keeps old base) grown.is) in
         record {
           keeps = are.keeps;
           fits = fits;
           is = module_by old_terms rules plain (map (term_at new_table) m.names) m by_names;
           grown = grown.base;
           well_formed = grown.well_formed;
-          base = record {
-            named = grown.named;
-            small = rw grown.base (All-append (λ n. tree_size (term_at new_table n) ≤ most_symbols) old m.names (still_base are.keeps old base).small
-                (λ k d within.
-                let n : ℕ = get_or m.names k d in
-                small (term_at new_table n) ((by_names.new.members (term_at new_table n)).0 (Contains-map (term_at new_table) m.names n (Contains-get_or m.names k d within))).0));
-          };
+          base = grown.named;
         }
 
 -- what is answered where there are no instances

@@ -2,13 +2,12 @@
 -- Source: grounding in context after Gebser, Kaminski, Kaufmann and Schaub, "Multi-shot ASP solving with clingo" (2019).
 use Rattle.std.specs.Prelude.{ℕ, ◌≡◌, ◌≢◌, ◌<◌, ◌≤◌, ◌++◌, List, [], Result, Ok, Err, All, Any, length, map}
 use Rattle.ms_tree.specs.Tree.{Tree}
-use Rattle.ms_tree.specs.Size.{tree_size}
 use Rattle.ms_term.specs.Terms.{term_at}
 use Rattle.ms_core.specs.declared.rule.CoreRule.{CoreRule}
 use Rattle.ms_join.specs.declared.ground_module.GroundModule.{GroundModule}
 use Rattle.ms_join.specs.Modules.{IsWellFormed}
 use Rattle.ms_copies.specs.Simplifying.{ArePlain, IsModule}
-use Rattle.ms_copies.specs.Limits.{most_symbols, IsTooLarge}
+use Rattle.ms_copies.specs.Limits.{IsTooLarge}
 use Rattle.ms_value.specs.Naming.{Keeps}
 use Rattle.ms_ctxground.specs.declared.fault.GroundFault.{GroundFault}
 use Rattle.ms_ctxground.specs.declared.fault.GroundFault.TheVariants.{Later, TooLarge, OutOfMemory}
@@ -16,10 +15,9 @@ use Rattle.ms_ctxground.specs.declared.fault.GroundFault.TheVariants.{Later, Too
 abbrev pub HasAggregates : List CoreRule → Type 0
 HasAggregates rules = Any (λ rule. rule.aggs ≢ []) rules
 
--- The atoms of a base are named by the table, and each has at most as many symbols as one may have.
-pub record IsBaseIn (table : List Tree) (base : List ℕ) : Type 0 where
-  pub named : All (λ n. n < length table) base
-  pub small : All (λ n. tree_size (term_at table n) ≤ most_symbols) base
+-- the table has names for the atoms of a base
+abbrev pub IsBaseIn : List Tree → List ℕ → Type 0
+IsBaseIn table base = All (λ n. n < length table) base
 
 -- The ground module of rules over the old base. The names of the old table stay, and the new base is the old one and then
 -- the new atoms.

@@ -1,6 +1,6 @@
 // The ground module of calls of parts.
 ghost use Rattle.std.specs.Prelude.{◌≡◌, ◌≤◌, IfOk, length};
-ghost use Rattle.ms_term.specs.Terms.{trees};
+ghost use Rattle.ms_base.specs.Limits.{most_things};
 ghost use Rattle.ms_solving.specs.Grounding.{core_of_calls};
 ghost use Rattle.ms_ctxground.specs.Grounds.{Grounds, IsBaseIn};
 
@@ -24,9 +24,9 @@ pub fn ground(
     parts: &Parts,
     calls: &Calls,
 ) -> Result<GroundModule, GroundFault>
-    requires base { IsBaseIn (trees terms.old) base.old }
-    requires few { length base.old ≤ 4000000 }
-    ensures { Grounds (core_of_calls parts.now calls.now) (trees terms.old) (trees terms.new) base.old base.new result }
+    requires base { IsBaseIn terms.old base.old }
+    requires few { length base.old ≤ most_things }
+    ensures { Grounds (core_of_calls parts.now calls.now) terms.old terms.new base.old base.new result }
 {
     let rules = core_rules(alloc, parts, calls.as_slice())?;
     if has_aggregates(rules.as_slice()) {

@@ -1,6 +1,7 @@
 // The ground module of instances.
 ghost use Rattle.std.specs.Prelude.{◌≡◌, ◌+◌, ◌<◌, ◌≤◌, ◌++◌, ◌≢◌, All, AllPairs, Contains, IfOk, OnErr, OnOk, length, map};
-ghost use Rattle.ms_term.specs.Terms.{trees, AllDifferent};
+ghost use Rattle.ms_base.specs.Limits.{most_copies, most_things};
+ghost use Rattle.ms_term.specs.Terms.{AllDifferent};
 ghost use Rattle.ms_instances.specs.Instances.{IsHeaded};
 ghost use Rattle.std.specs.Option.{ForSome};
 ghost use Rattle.ms_ctxground.specs.LeftRules.{AreLeftInOrder};
@@ -26,12 +27,12 @@ pub(crate) fn module_of(
     terms: &Terms,
     instances: &[Instance],
 ) -> Result<GroundModule, OutOfMemory>
-    requires base_named { All (λ n. n < length (trees terms.now)) base.old }
-    requires named { All (IsNamed (length (trees terms.now))) instances.now }
+    requires base_named { All (λ n. n < length terms.now) base.old }
+    requires named { All (IsNamed (length terms.now)) instances.now }
     requires headed { All (λ i. IsHeaded i.kind i.head) instances.now }
-    requires few_atoms { length base.old ≤ 4000000 }
-    requires few { length instances.now ≤ 1000000 }
-    ensures ok { IfOk result (IsGrownBy (trees terms.now) instances.now base.old base.new) }
+    requires few_atoms { length base.old ≤ most_things }
+    requires few { length instances.now ≤ most_copies }
+    ensures ok { IfOk result (IsGrownBy terms.now instances.now base.old base.new) }
     ensures err { OnErr result (base.new ≡ base.old) }
 {
     // The table says that equal terms have equal names.
@@ -51,13 +52,13 @@ fn grown_by(
     terms: &Terms,
     instances: &[Instance],
 ) -> Result<GroundModule, OutOfMemory>
-    requires different { AllDifferent (trees terms.now) }
-    requires base_named { All (λ n. n < length (trees terms.now)) base.old }
-    requires named { All (IsNamed (length (trees terms.now))) instances.now }
+    requires different { AllDifferent terms.now }
+    requires base_named { All (λ n. n < length terms.now) base.old }
+    requires named { All (IsNamed (length terms.now)) instances.now }
     requires headed { All (λ i. IsHeaded i.kind i.head) instances.now }
-    requires few_atoms { length base.old ≤ 4000000 }
-    requires few { length instances.now ≤ 1000000 }
-    ensures ok { IfOk result (IsGrownBy (trees terms.now) instances.now base.old base.new) }
+    requires few_atoms { length base.old ≤ most_things }
+    requires few { length instances.now ≤ most_copies }
+    ensures ok { IfOk result (IsGrownBy terms.now instances.now base.old base.new) }
     ensures err { IsFrontOf base.old base.new }
 {
     let first_new = base.len();

@@ -1,7 +1,7 @@
 // The names of atoms that a base lacks, in term order.
 ghost use Rattle.std.specs.Prelude.{◌≡◌, ◌<◌, All, IfOk, OnOk, length};
 ghost use Rattle.std.specs.List.{filter_map};
-ghost use Rattle.ms_term.specs.Terms.{trees, AllDifferent};
+ghost use Rattle.ms_term.specs.Terms.{AllDifferent};
 ghost use Rattle.ms_copies.specs.Grounding.{gives_head, gives_external};
 ghost use Rattle.ms_ctxground.specs.NewAtoms.{head_of, AreAdded, IsNewOf};
 
@@ -9,8 +9,7 @@ use ms_atombase::AtomBase;
 use ms_core::rule::RuleKind;
 use ms_instances::Instance;
 use ms_join::ground_module::TermIds;
-use ms_order::in_term_order;
-use ms_term::{OutOfMemory, TermId, Terms};
+use ms_term::{OutOfMemory, TermId, Terms, in_term_order};
 use std::alloc::Global;
 
 /// The heads of normal rules and choices, in the order of the instances.
@@ -65,10 +64,10 @@ pub(crate) fn new_names(
     outputs: &[TermId],
     externals: &[TermId],
 ) -> Result<TermIds, OutOfMemory>
-    requires different { AllDifferent (trees terms.now) }
-    requires outputs { All (λ n. n < length (trees terms.now)) outputs.now }
-    requires externals { All (λ n. n < length (trees terms.now)) externals.now }
-    ensures { IfOk result (IsNewOf (trees terms.now) base.now outputs.now externals.now) }
+    requires different { AllDifferent terms.now }
+    requires outputs { All (λ n. n < length terms.now) outputs.now }
+    requires externals { All (λ n. n < length terms.now) externals.now }
+    ensures { IfOk result (IsNewOf terms.now base.now outputs.now externals.now) }
 {
     let mut names = Vec::new(alloc);
     add_unknown(base, outputs, &mut names)?;

@@ -1,13 +1,13 @@
 // The ground module of core rules without aggregates.
 ghost use Rattle.std.specs.Prelude.{◌≡◌, ◌≤◌, All, IsTrue, false, length};
-ghost use Rattle.ms_term.specs.Terms.{trees};
+ghost use Rattle.ms_base.specs.Limits.{most_things};
 ghost use Rattle.ms_instances.specs.Naming.{IsHeadedRule};
 ghost use Rattle.ms_copies.specs.Simplifying.{ArePlain};
 ghost use Rattle.ms_ctxground.specs.Grounds.{Grounds, HasAggregates, IsBaseIn};
 
 use crate::fault::GroundFault;
 use crate::module::module_of;
-use crate::size::has_large_head;
+use crate::size::has_large;
 use ms_atombase::AtomBase;
 use ms_core::rule::CoreRule;
 use ms_instances::instances;
@@ -37,12 +37,12 @@ pub(crate) fn ground_rules(
 ) -> Result<GroundModule, GroundFault>
     requires plain { ArePlain rules.now }
     requires headed { All (λ r. IsHeadedRule r.kind r.head) rules.now }
-    requires base { IsBaseIn (trees terms.old) base.old }
-    requires few { length base.old ≤ 4000000 }
-    ensures { Grounds rules.now (trees terms.old) (trees terms.new) base.old base.new result }
+    requires base { IsBaseIn terms.old base.old }
+    requires few { length base.old ≤ most_things }
+    ensures { Grounds rules.now terms.old terms.new base.old base.new result }
 {
     let instances = instances(alloc, terms, rules)?;
-    if has_large_head(terms, instances.as_slice()) {
+    if has_large(base, terms, instances.as_slice()) {
         return Err(GroundFault::TooLarge);
     }
     Ok(module_of(alloc, base, terms, instances.as_slice())?)

@@ -1,4 +1,4 @@
-use ms_order::{Terms, compare_lists, in_term_order};
+use ms_term::{Terms, compare_lists, in_term_order};
 use std::cmp::Ordering;
 use std::test::Fail;
 
@@ -9,7 +9,6 @@ fn terms_in_order(rt: HostRuntime) -> Result<(), Fail> {
     let text = terms.text(b"a")?;
     let two = terms.number(2)?;
     let one = terms.number(1)?;
-    let _ = terms.len();
     let sorted = in_term_order(&terms, vec![in alloc; text, two, one, two]?);
     assert_eq!(rt;
         sorted.as_slice(),

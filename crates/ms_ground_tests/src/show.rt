@@ -1,6 +1,5 @@
 ghost use Rattle.std.specs.Prelude.{◌≡◌, ◌∷◌, [], ◌<◌, IfOk, length};
 ghost use Rattle.ms_join.specs.AnswerSets.{IsAtomSet};
-ghost use Rattle.ms_term.specs.Terms.{trees};
 
 use ms_atombase::{AtomBase, AtomId};
 use ms_base::memory::OutOfMemory;
@@ -32,7 +31,7 @@ fn whole_set(alloc: Global) -> Result<AtomSet, OutOfMemory>
 
 /// The lines of all sets of one atom.
 fn lines(alloc: Global, terms: &Terms, atom: TermId) -> Result<Vec<u8>, OutOfMemory>
-    requires { atom < length (trees terms.now) }
+    requires { atom < length terms.now }
 {
     let base = base_of(alloc, atom)?;
     let sets = [whole_set(alloc)?, Seq::new(alloc)];

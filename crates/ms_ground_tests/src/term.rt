@@ -178,6 +178,74 @@ fn looks_up_parts(rt: HostRuntime) -> Result<(), Fail> {
     Ok(())
 }
 
+fn found(
+    rt: &impl Abort,
+    alloc: Global,
+    terms: &Terms,
+    step: Step,
+) -> Result<Option<TermId>, Fail> {
+    let name = match step {
+        Step::Number(n) => terms.find_number(n),
+        Step::Text(bytes) => terms.find_text(bytes),
+        Step::Function(name, places) => {
+            let arguments = ids(alloc, places)?;
+            assert!(rt; all_below(arguments.as_slice(), terms.len()));
+            terms.find_function(name, arguments.as_slice())
+        }
+    };
+    Ok(name)
+}
+
+#[test]
+fn finds_what_is_there(rt: HostRuntime) -> Result<(), Fail> {
+    let terms = table(&rt, rt.alloc())?;
+    for (place, step) in STEPS.iter().enumerate() {
+        let name = found(&rt, rt.alloc(), &terms, *step)?;
+        assert_eq!(rt; name, Some(TermId(place)), "each term is found");
+    }
+    let others = [
+        Step::Number(4),
+        Step::Text(b"f"),
+        Step::Text(b"none"),
+        Step::Function(b"none", &[]),
+        Step::Function(b"f", &[1]),
+    ];
+    for step in others {
+        assert_eq!(rt; found(&rt, rt.alloc(), &terms, step)?, None, "no other is");
+    }
+    assert_eq!(rt; terms.len(), STEPS.len(), "a look-up adds nothing");
+    Ok(())
+}
+
+#[test]
+fn goes_back(rt: HostRuntime) -> Result<(), Fail> {
+    let mut terms = table(&rt, rt.alloc())?;
+    let mark = terms.mark();
+    terms.text(b"later")?;
+    terms.number(7)?;
+    terms.back_to(mark);
+    assert_eq!(rt; terms.len(), STEPS.len(), "the terms of that moment");
+    assert_eq!(rt; terms.find_text(b"later"), None, "and no others");
+    let again = terms.text(b"later")?;
+    assert_eq!(rt; again, TermId(STEPS.len()), "it is new again");
+    Ok(())
+}
+
+#[test]
+fn knows_the_first_large_term(rt: HostRuntime) -> Result<(), Fail> {
+    let mut terms = Terms::new(rt.alloc());
+    let mut last = terms.number(0)?;
+    for _ in 1..2000 {
+        assert!(rt; last.0 < terms.len());
+        last = terms.function(b"s", &[last])?;
+    }
+    assert_eq!(rt; terms.first_large(), None, "2,000 symbols aren't too many");
+    assert!(rt; last.0 < terms.len());
+    let large = terms.function(b"s", &[last])?;
+    assert_eq!(rt; terms.first_large(), Some(large), "2,001 symbols are");
+    Ok(())
+}
+
 #[test]
 fn computes_within_64_bits(rt: HostRuntime) {
     let rows = [

@@ -1,6 +1,5 @@
 // The instances of rules, one after the other.
 ghost use Rattle.std.specs.Prelude.{◌≡◌, ◌+◌, ◌<◌, ◌≤◌, ◌++◌, All, IfOk, IfErr, map, length, option_to_list};
-ghost use Rattle.ms_term.specs.Terms.{trees};
 ghost use Rattle.ms_copies.specs.Limits.{most_copies};
 ghost use Rattle.ms_value.specs.Naming.{Keeps};
 ghost use Rattle.ms_instances.specs.Instances.{said_by};
@@ -26,8 +25,8 @@ pub fn instances(
     terms: &mut Terms,
     rules: &[CoreRule],
 ) -> Result<Instances, InstanceFault>
-    ensures ok { IfOk result (AreInstances (trees terms.old) (trees terms.new) rules.now (all_said rules.now)) }
-    ensures err { IfErr result (Refuses (trees terms.old) (trees terms.new) (length (all_said rules.now))) }
+    ensures ok { IfOk result (AreInstances terms.old terms.new rules.now (all_said rules.now)) }
+    ensures err { IfErr result (Refuses terms.old terms.new (length (all_said rules.now))) }
 {
     let mut list = Vec::new(alloc);
     for rule in rules {
@@ -43,10 +42,10 @@ fn add_rule(
     rule: &CoreRule,
     list: &mut Vec<Instance>,
 ) -> Result<(), InstanceFault>
-    requires named { All (IsNamed (length (trees terms.old))) list.old.items }
+    requires named { All (IsNamed (length terms.old)) list.old.items }
     requires few { length list.old.items ≤ most_copies }
-    ensures ok { IfOk result (λ done. Adds (trees terms.old) list.old.items (trees terms.new) list.new.items (said_by_rule rule.now)) }
-    ensures err { IfErr result (Refuses (trees terms.old) (trees terms.new) (length list.old.items + length (said_by_rule rule.now))) }
+    ensures ok { IfOk result (λ done. Adds terms.old list.old.items terms.new list.new.items (said_by_rule rule.now)) }
+    ensures err { IfErr result (Refuses terms.old terms.new (length list.old.items + length (said_by_rule rule.now))) }
 {
     let mut walk = Walk::new(alloc, rule.conds.ranges.as_slice());
     while walk.next()? {
@@ -63,10 +62,10 @@ fn add_copy(
     chosen: &[i64],
     list: &mut Vec<Instance>,
 ) -> Result<(), InstanceFault>
-    requires named { All (IsNamed (length (trees terms.old))) list.old.items }
+    requires named { All (IsNamed (length terms.old)) list.old.items }
     requires few { length list.old.items ≤ most_copies }
-    ensures ok { IfOk result (λ done. Adds (trees terms.old) list.old.items (trees terms.new) list.new.items (option_to_list (said_of rule.now chosen.now))) }
-    ensures err { IfErr result (Refuses (trees terms.old) (trees terms.new) (length list.old.items + length (option_to_list (said_of rule.now chosen.now)))) }
+    ensures ok { IfOk result (λ done. Adds terms.old list.old.items terms.new list.new.items (option_to_list (said_of rule.now chosen.now))) }
+    ensures err { IfErr result (Refuses terms.old terms.new (length list.old.items + length (option_to_list (said_of rule.now chosen.now)))) }
 {
     if let Some(instance) = instance_of(alloc, terms, rule, chosen)? {
         if list.len() >= MOST_COPIES {

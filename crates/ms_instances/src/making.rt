@@ -1,7 +1,6 @@
 // What one copy says, under the names of a table.
 ghost use Rattle.std.specs.Prelude.{IfOk};
 ghost use Rattle.std.specs.List.{list_all};
-ghost use Rattle.ms_term.specs.Terms.{trees};
 ghost use Rattle.ms_instances.specs.Listing.{holds, head_value, said_of};
 ghost use Rattle.ms_instances.specs.Naming.{Tells, GivesHead, GivesInstance};
 
@@ -20,7 +19,7 @@ pub(crate) fn instance_of(
     rule: &CoreRule,
     chosen: &[i64],
 ) -> Result<Option<Instance>, OutOfMemory>
-    ensures { IfOk result (GivesInstance (trees terms.old) (trees terms.new) (said_of rule.now chosen.now)) }
+    ensures { IfOk result (GivesInstance terms.old terms.new (said_of rule.now chosen.now)) }
 {
     if !all_hold(alloc, terms, rule.conds.tests.as_slice(), chosen)? {
         return Ok(None);
@@ -49,7 +48,7 @@ fn all_hold(
     tests: &[Test],
     chosen: &[i64],
 ) -> Result<bool, OutOfMemory>
-    ensures { IfOk result (λ all. Tells (trees terms.old) (trees terms.new) all (list_all (holds chosen.now) tests.now)) }
+    ensures { IfOk result (λ all. Tells terms.old terms.new all (list_all (holds chosen.now) tests.now)) }
 {
     for test in tests {
         if !test_holds(alloc, terms, test, chosen)? {
@@ -66,7 +65,7 @@ fn test_holds(
     test: &Test,
     chosen: &[i64],
 ) -> Result<bool, OutOfMemory>
-    ensures { IfOk result (λ it. Tells (trees terms.old) (trees terms.new) it (holds chosen.now test.now)) }
+    ensures { IfOk result (λ it. Tells terms.old terms.new it (holds chosen.now test.now)) }
 {
     match integers_hold(test, chosen) {
         Some(it) => Ok(it),
@@ -81,7 +80,7 @@ fn terms_hold(
     test: &Test,
     chosen: &[i64],
 ) -> Result<bool, OutOfMemory>
-    ensures { IfOk result (λ it. Tells (trees terms.old) (trees terms.new) it (holds chosen.now test.now)) }
+    ensures { IfOk result (λ it. Tells terms.old terms.new it (holds chosen.now test.now)) }
 {
     let Some(left) = evaluate(alloc, terms, &test.left, chosen)? else {
         return Ok(false);
@@ -99,7 +98,7 @@ fn name_head(
     head: &Option<Pattern>,
     chosen: &[i64],
 ) -> Result<Option<Option<TermId>>, OutOfMemory>
-    ensures { IfOk result (GivesHead (trees terms.old) (trees terms.new) (head_value chosen.now head.now)) }
+    ensures { IfOk result (GivesHead terms.old terms.new (head_value chosen.now head.now)) }
 {
     match head {
         None => Ok(Some(None)),

@@ -1,8 +1,9 @@
 ghost use Rattle.std.specs.Prelude.{IfOk, ◌<◌};
 ghost use Rattle.ms_join.specs.AnswerSets.{AreRulesOver, IsRuleOver};
 
-use ms_answers::{AtomLit, Ending, answer_sets};
+use ms_answers::{Ending, answer_sets};
 use ms_base::seq::Seq;
+use ms_join::assumption::AtomLit;
 use ms_rules::{AtomId, GroundKind, GroundRule, OutOfMemory, Rules};
 use std::alloc::Global;
 use std::process::Abort;
@@ -17,6 +18,7 @@ fn choice(alloc: Global, atom: AtomId) -> Result<GroundRule, OutOfMemory>
         head: Some(atom),
         pos: Seq::new(alloc),
         neg: Seq::new(alloc),
+        aggs: Seq::new(alloc),
     })
 }
 

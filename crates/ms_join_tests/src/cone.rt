@@ -1,6 +1,6 @@
 ghost use Rattle.std.specs.Prelude.{All, IfOk, ◌<◌};
 ghost use Rattle.ms_join.specs.AnswerSets.{IsRuleOver};
-ghost use Rattle.ms_cone.specs.Uses.{HaveHeadsBelow};
+ghost use Rattle.ms_cone.specs.Dependencies.{IsBelow};
 
 use ms_base::seq::Seq;
 use ms_cone::{AtomId, Cone, Dependencies, OutOfMemory};
@@ -8,8 +8,8 @@ use ms_join::ground_rule::{AtomIds, GroundKind, GroundRule, GroundRules};
 use std::alloc::Global;
 use std::test::Fail;
 
-/// Rules over six atoms, each a head with a positive atom, and the components of what reaches the starts: a letter for
-/// each atom, which is a dot where the atom isn't found.
+/// Rules over six atoms, each a head with a positive atom, the atoms around which a cone is made, and a letter for each atom,
+/// which those of one component have in common.
 #[derive(Clone, Copy)]
 struct Row {
     message: &'static str,
@@ -41,6 +41,7 @@ fn rule(alloc: Global, head: u32, atom: u32) -> Result<GroundRule, OutOfMemory>
         head: Some(AtomId(head % 6)),
         pos: atoms(alloc, &[atom])?,
         neg: Seq::new(alloc),
+        aggs: Seq::new(alloc),
     })
 }
 
@@ -55,7 +56,7 @@ fn rules(alloc: Global, pairs: &[(u32, u32)]) -> Result<GroundRules, OutOfMemory
 }
 
 fn dependencies(alloc: Global, pairs: &[(u32, u32)]) -> Result<Dependencies, OutOfMemory>
-    ensures { IfOk result (HaveHeadsBelow 6) }
+    ensures { IfOk result (IsBelow 6) }
 {
     let rules = rules(alloc, pairs)?;
     let mut dependencies = Dependencies::new(alloc);
@@ -67,21 +68,24 @@ fn cone_of(alloc: Global, row: Row) -> Result<Cone, OutOfMemory> {
     let old = dependencies(alloc, row.old)?;
     let new = rules(alloc, row.new)?;
     let starts = atoms(alloc, row.starts)?;
-    Cone::reaching(alloc, &old, new.as_slice(), 6, starts.as_slice())
+    Cone::around(alloc, &old, new.as_slice(), 6, starts.as_slice())
 }
 
 /// The letter of an atom.
-fn letter_at(components: &[u8], atom: u32) -> u8 {
+fn letter_of(components: &[u8], atom: u32) -> u8 {
     components.get(atom as usize).copied().unwrap_or(b'.')
 }
 
-/// The atoms that are found in one component with this one are those with its letter.
-fn agrees(cone: &Cone, components: &[u8], a: u32) -> bool {
-    let number = cone.component(AtomId(a));
-    let letter = letter_at(components, a);
-    for b in 0..6 {
-        let together = number.is_some() && cone.component(AtomId(b)) == number;
-        if together != (letter != b'.' && letter == letter_at(components, b)) {
+/// The start is there, and the atoms in one component with it are those with its letter.
+fn agrees(cone: &Cone, components: &[u8], start: u32) -> bool {
+    let number = cone.component(AtomId(start));
+    if number.is_none() {
+        return false;
+    }
+    let letter = letter_of(components, start);
+    for a in 0..6 {
+        let together = cone.component(AtomId(a)) == number;
+        if together != (letter == letter_of(components, a)) {
             return false;
         }
     }
@@ -89,60 +93,122 @@ fn agrees(cone: &Cone, components: &[u8], a: u32) -> bool {
 }
 
 #[test]
-fn components_of_what_reaches(rt: HostRuntime) -> Result<(), Fail> {
+fn components_around_starts(rt: HostRuntime) -> Result<(), Fail> {
     let rows = [
         Row {
             message: "a start without rules",
             old: &[],
             new: &[],
             starts: &[0],
-            components: b"a.....",
+            components: b"abcdef",
         },
         Row {
-            message: "no starts",
-            old: &[(1, 0)],
-            new: &[(0, 1)],
-            starts: &[],
-            components: b"......",
-        },
-        Row {
-            message: "what depends on the start, and not what it depends on",
+            message: "what depends on the start, and what it depends on",
             old: &[(1, 0), (0, 2)],
             new: &[],
             starts: &[0],
-            components: b"ab....",
+            components: b"abcdef",
         },
         Row {
             message: "a loop through an old and a new rule",
             old: &[(1, 0)],
             new: &[(0, 1)],
             starts: &[0],
-            components: b"aa....",
+            components: b"aacdef",
         },
         Row {
             message: "new rules above an old loop",
             old: &[(0, 1), (1, 0)],
             new: &[(2, 1), (3, 2), (3, 5)],
             starts: &[0],
-            components: b"aabc..",
+            components: b"aacdef",
+        },
+        Row {
+            message: "a longer loop",
+            old: &[(1, 0), (2, 1), (3, 2)],
+            new: &[(0, 3), (4, 0), (3, 5)],
+            starts: &[2],
+            components: b"aaaaef",
         },
         Row {
             message: "two starts",
             old: &[(1, 0)],
             new: &[(5, 4), (4, 5)],
             starts: &[0, 4, 0],
-            components: b"ab..cc",
+            components: b"abcdee",
         },
     ];
     for row in &rows {
         let cone = cone_of(rt.alloc(), *row)?;
-        for a in 0..6 {
+        for start in row.starts {
             assert!(rt;
-                agrees(&cone, row.components, a),
-                "{}: atom {a}",
+                agrees(&cone, row.components, *start),
+                "{}: atom {start}",
                 row.message
             );
         }
+    }
+    Ok(())
+}
+
+/// Each atom depends on the one before it.
+const CHAIN: &[(u32, u32)] = &[(1, 0), (2, 1), (3, 2), (4, 3), (5, 4)];
+
+/// How many atoms are found around the starts.
+#[derive(Clone, Copy)]
+struct Size {
+    message: &'static str,
+    old: &'static [(u32, u32)],
+    starts: &'static [u32],
+    size: usize,
+}
+
+#[test]
+fn the_smaller_part_is_found(rt: HostRuntime) -> Result<(), Fail> {
+    let rows = [
+        Size {
+            message: "nothing around no atoms",
+            old: CHAIN,
+            starts: &[],
+            size: 0,
+        },
+        Size {
+            message: "what the start depends on",
+            old: CHAIN,
+            starts: &[1],
+            size: 2,
+        },
+        Size {
+            message: "what depends on the start",
+            old: CHAIN,
+            starts: &[4],
+            size: 2,
+        },
+        Size {
+            message: "one rule against four with the start in their bodies",
+            old: &[(0, 1), (2, 0), (3, 0), (4, 0), (5, 0)],
+            starts: &[0],
+            size: 2,
+        },
+        Size {
+            message: "one rule against four with the start as their head",
+            old: &[(1, 0), (0, 2), (0, 3), (0, 4), (0, 5)],
+            starts: &[0],
+            size: 2,
+        },
+    ];
+    for row in &rows {
+        let cone = cone_of(
+            rt.alloc(),
+            Row {
+                message: row.message,
+                old: row.old,
+                new: &[],
+                starts: row.starts,
+                components: b"",
+            },
+        )?;
+        assert_eq!(rt; cone.len(), row.size, "{}", row.message);
     }
     Ok(())
 }
@@ -152,7 +218,7 @@ fn members_in_their_places(rt: HostRuntime) -> Result<(), Fail> {
     let row = Row {
         message: "",
         old: &[(1, 0)],
-        new: &[(2, 1)],
+        new: &[(2, 1), (0, 2), (0, 3)],
         starts: &[0],
         components: b"",
     };

@@ -8,4 +8,6 @@ mod cone;
 #[cfg(test)]
 mod graph;
 #[cfg(test)]
+mod propagation;
+#[cfg(test)]
 mod rules;

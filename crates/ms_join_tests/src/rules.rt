@@ -3,8 +3,8 @@ ghost use Rattle.ms_join.specs.AnswerSets.{AreRulesOver, IsAtomSet, IsRuleOver};
 
 use ms_base::seq::Seq;
 use ms_rules::{
-    AtomId, AtomIds, AtomSet, GroundKind, GroundRule, Input, Inputs, OutOfMemory, Rules, Scratch,
-    Truth, is_answer,
+    AtomId, AtomIds, AtomSet, GroundKind, GroundRule, Input, Inputs, OutOfMemory, RuleScratch,
+    Rules, Scratch, Truth, is_answer, is_answer_by,
 };
 use std::alloc::Global;
 use std::test::Fail;
@@ -59,6 +59,7 @@ fn rule_of(alloc: Global, row: TinyRule) -> Result<GroundRule, OutOfMemory>
         head,
         pos,
         neg,
+        aggs: Seq::new(alloc),
     })
 }
 
@@ -125,6 +126,7 @@ const fn tiny(head: Option<Atom>, pos: Option<Atom>, neg: Option<Atom>) -> TinyR
         head,
         pos,
         neg,
+        aggs: Seq::new(alloc),
     }
 }
 
@@ -134,6 +136,7 @@ const fn choice(head: Option<Atom>, pos: Option<Atom>, neg: Option<Atom>) -> Tin
         head,
         pos,
         neg,
+        aggs: Seq::new(alloc),
     }
 }
 

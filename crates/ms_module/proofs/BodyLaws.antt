@@ -11,7 +11,7 @@ use Rattle.std.proofs.Math.ListN.{get_or-map}
 use Rattle.std.proofs.lemmas.List.Folds.{Any-from_list_any, list_any-from_Any}
 use Rattle.indexmap.specs.IndexSet.{insert_key}
 use Rattle.ms_join.specs.declared.ground_rule.GroundRule.{GroundRule}
-use Rattle.ms_join.specs.Composability.{Body, body_of}
+use Rattle.ms_join.specs.Things.{Body, body_of}
 use Rattle.ms_module.specs.declared.bodies.BodyKey.{BodyKey}
 use Rattle.ms_module.specs.contracts.bodies.BodyKeyPartialEq.TheImpl.{eq-value}
 use Rattle.ms_module.specs.Bodies.{shown, IsBodyIn, AreBodiesOf, AddsBodies, AreMissing, CountsBodies}
@@ -210,7 +210,7 @@ key_there keys old missing key rule test old_is shows tested there before are =
     (subst (Contains old) shows (subst (λ bs. Contains bs (shown key)) old_is (there_from_any key keys (sym tested ∙ there)))) are
 
 -- two lists without an element in common are different elements together
-AllPairs-together : (xs ys : List Body) → AllPairs (λ b c. b ≢ c) xs → AllPairs (λ b c. b ≢ c) ys → ((b : Body) → Contains ys b → ¬ Contains xs b)
+pub AllPairs-together : {X : Type 0} (xs ys : List X) → AllPairs (λ b c. b ≢ c) xs → AllPairs (λ b c. b ≢ c) ys → ((b : X) → Contains ys b → ¬ Contains xs b)
     → AllPairs (λ b c. b ≢ c) (xs ++ ys)
 AllPairs-together [] ys once also apart = also
 AllPairs-together (x ∷ xs) ys once also apart =

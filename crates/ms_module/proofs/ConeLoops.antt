@@ -1,10 +1,10 @@
 -- Loops in a cone are loops across modules.
-use Rattle.std.proofs.Common.{◌≡◌, ◌↔◌, ℕ, ◌+◌, ◌<◌, ◌≤◌, ◌⊎◌, inl, inr, Bool, true, false, nat_eq, nat_lt, Option, Some, None, IfSome, List, [], ◌∷◌, ◌++◌, length, get_or, take, refl, sym, ap, ◌∙◌, subst, arith, length-append, Contains, if◌then◌else◌, IsTrue}
+use Rattle.std.proofs.Common.{◌≡◌, ◌↔◌, ℕ, ◌+◌, ◌<◌, ◌≤◌, ◌⊎◌, inl, inr, Bool, true, false, nat_eq, nat_lt, Option, Some, None, List, [], ◌∷◌, ◌++◌, length, get_or, take, refl, sym, ap, ◌∙◌, subst, arith, length-append, Contains, if◌then◌else◌, IsTrue}
 use Rattle.std.specs.List.{Any, All, position_or_len, list_any}
 use Rattle.std.specs.Option.{option_map, option_eq}
 use Rattle.std.proofs.lemmas.Bool.{cases_lt, cond-true, lt-ltb, false≢true}
 use Rattle.std.proofs.lemmas.Bool.Decides.{Decides-eqb}
-use Rattle.std.proofs.lemmas.List.Elements.{All-contains, Contains-push_cases, Contains-append_left, Contains-push}
+use Rattle.std.proofs.lemmas.List.Elements.{All-contains, All-weaker, Contains-push_cases, Contains-append_left, Contains-push}
 use Rattle.std.proofs.lemmas.List.{get_or_append_left, get_or_default}
 use Rattle.std.proofs.lemmas.Option.{none-some, same_Some}
 use Rattle.std.proofs.lemmas.Cmp.{nat_eq_equiv}
@@ -19,14 +19,14 @@ use Rattle.ms_join.specs.AnswerSets.{IsRuleOver}
 use Rattle.ms_join.specs.Modules.{Join, IsJoin, IsOutput, IsWellFormed}
 use Rattle.ms_join.specs.Composability.{IsInLoop, IsLeast, LoopsWith}
 use Rattle.ms_cone.specs.Cones.{Numbered, number_of, IsCone}
-use Rattle.ms_cone.specs.Uses.{Keeps, HaveHeadsBelow}
-use Rattle.ms_cone.specs.declared.uses.Use.{Use}
+use Rattle.ms_cone.specs.Dependencies.{IsBelow, Keeps, Linked}
+use Rattle.ms_cone.proofs.Adding.{keeps_below}
 use Rattle.ms_cone.proofs.Members.{member_of, contains_at}
-use Rattle.ms_cone.proofs.CrossLoops.{ReachesOldHead, loop_reaches_old_head}
+use Rattle.ms_cone.proofs.CrossLoops.{IsWithOldHead, loop_has_old_head, no_loop_without_old_head}
 use Rattle.ms_module.specs.declared.loops.CrossLoop.{CrossLoop}
 use Rattle.ms_module.specs.Faults.{AreThose, AreNumbersOf, HasNumber, HasNumberAmong, LoopsInCone, IsInConeLoop, FindsInCone, FindsLoop}
 use Rattle.ms_module.proofs.Leasts.{least_of}
-use Rattle.ms_module.proofs.JoinLaws.{head_below}
+use Rattle.ms_module.proofs.JoinLaws.{rule_over_more}
 
 abbrev HasNumberIn : Numbered → ℕ → ℕ → Type 0
 HasNumberIn cone n a = number_of cone a ≡ Some n
@@ -59,15 +59,20 @@ has_number cone a (k, within, is) =
       is = ap (option_map (λ i. get_or cone.numbers i 0)) (cond-true (nat_lt first (length cone.members)) (Some first) None (lt-ltb first (length cone.members) inside));
     }
 
+has_member : (cone : Numbered) (b n : ℕ) → number_of cone b ≡ Some n → Contains cone.members b
+has_member cone b n is = let at = member_of cone b n is in contains_at cone.members at.place b at.member
+
 -- the old heads from which the cone starts
 pub record StartsAtOldHeads (j : Join) (m : GroundModule) (starts : List ℕ) : Type 0 where
   pub all : AreThose m.heads (λ a. a < j.atoms) starts
 
 member_from : (j : Join) (m : GroundModule) (starts : List ℕ) (cone : Numbered) (a : ℕ) → StartsAtOldHeads j m starts → IsCone (j.rules ++ m.rules) starts cone
-    → ReachesOldHead j m a → Contains cone.members a
+    → IsWithOldHead j m a → Contains cone.members a
 member_from j m starts cone a old is reaches =
-    let start = (old.all reaches.through).1 (reaches.is_head.head, reaches.is_head.within) in
-    (is.members a).1 (start.0, reaches.through, start.1, start.2, reaches.reaches)
+    let t = reaches.through in
+    let start = (old.all t).1 (reaches.is_head.head, reaches.is_head.within) in
+    let n = has_number cone t (is.starts_are t start) in
+    has_member cone a n.number ((is.components t a n.number n.is).1 (record { forth = reaches.together.back; back = reaches.together.forth }))
 
 to_module : (j : Join) (m : GroundModule) (starts : List ℕ) (cone : Numbered) (a b : ℕ) → IsCone (j.rules ++ m.rules) starts cone → LoopsInCone j cone a b → LoopsWith j m a b
 to_module j m starts cone a b is loops = record {
@@ -78,7 +83,7 @@ to_module j m starts cone a b is loops = record {
 to_cone : (j : Join) (m : GroundModule) (starts : List ℕ) (cone : Numbered) (a b : ℕ) → IsJoin j → IsWellFormed j.atoms m → StartsAtOldHeads j m starts
     → IsCone (j.rules ++ m.rules) starts cone → Contains m.heads a → LoopsWith j m a b → LoopsInCone j cone a b
 to_cone j m starts cone a b join formed old is head loops =
-    let both = loop_reaches_old_head j m a b join formed head loops in
+    let both = loop_has_old_head j m a b join formed head loops in
     let n = has_number cone a (member_from j m starts cone a old is both.new) in
     record {
       output = loops.output;
@@ -104,17 +109,17 @@ found_in_cone names j m starts cone (Some l) join formed old is finds = (
       finds.1,
 )
 
--- the heads of kept uses are over the base
-pub heads_below : (j : Join) (uses : List Use) (n : ℕ) → IsJoin j → Keeps uses j.rules → j.atoms ≤ n → HaveHeadsBelow n uses
-heads_below j uses n join keeps le k d within =
-    let one = get_or uses k d in
-    let (i, rule, inside, at, both) = keeps.only one.head one.atom (k, one, within, get_or_default uses k one d within, record { head = refl; atom = refl }) in
-    let over : IsRuleOver j.atoms rule = All-contains (IsRuleOver j.atoms) j.rules rule join.over.rules (i, inside, at) in
-    let less : one.head < j.atoms = subst (λ h. IfSome h (λ x. x < j.atoms)) both.0 (head_below j.atoms rule.kind rule.head over.head) in
-    omega arith
+-- where no head is in the old base
+pub none_found : (j : Join) (m : GroundModule) (heads starts : List ℕ) → IsJoin j → IsWellFormed j.atoms m → AreThose heads (λ a. a < j.atoms) starts → heads ≡ m.heads → length starts ≡ 0 → (a : ℕ) → ¬ IsInLoop j m a
+none_found j m heads starts join formed those same none =
+    no_loop_without_old_head j m join formed (λ h old.
+    let (k, within, is) = ((those h).1 (subst (λ xs. Contains xs h) (sym same) old.head, old.within)) in
+    omega (arith, within, none))
 
-has_member : (cone : Numbered) (b n : ℕ) → number_of cone b ≡ Some n → Contains cone.members b
-has_member cone b n is = let at = member_of cone b n is in contains_at cone.members at.place b at.member
+-- the links of kept dependencies lead to atoms of the base
+pub kept_below : (j : Join) (d : Linked) (n : ℕ) → IsJoin j → Keeps d j.rules → j.atoms ≤ n → IsBelow n d
+kept_below j d n join keeps le =
+    keeps_below n d j.rules keeps (All-weaker (IsRuleOver j.atoms) (IsRuleOver n) (rule_over_more j.atoms n le) j.rules join.over.rules)
 
 -- heads with a number of an output are the heads of loops
 pub looping : (j : Join) (cone : Numbered) (heads outputs numbers found : List ℕ) → AreThose cone.members (IsOutput j) outputs → AreNumbersOf cone outputs numbers

@@ -1,5 +1,5 @@
 -- Joins stay joins.
-use Rattle.std.proofs.Common.{◌≡◌, ℕ, ◌+◌, ◌^◌, ◌<◌, ◌≤◌, inl, inr, Bool, Option, Some, None, IfSome, List, [], ◌++◌, get_or, refl, sym, ap, ◌∙◌, subst, arith, Contains}
+use Rattle.std.proofs.Common.{◌≡◌, ℕ, ◌+◌, ◌^◌, ◌<◌, ◌≤◌, inl, inr, Bool, Option, Some, None, IfSome, List, [], ◌++◌, get_or, sym, ap, ◌∙◌, subst, arith, Contains}
 use Rattle.std.specs.Bool.{⊤}
 use Rattle.std.specs.List.{All}
 use Rattle.std.proofs.lemmas.Bool.{cases_lt}
@@ -13,40 +13,31 @@ use Rattle.ms_join.specs.declared.ground_module.GroundModule.{GroundModule}
 use Rattle.ms_base.specs.declared.truth.Effect.{Effect}
 use Rattle.ms_base.specs.declared.truth.Effect.TheVariants.{Done, NoEffect}
 use Rattle.ms_join.specs.AnswerSets.{HasHead, IsRuleOver}
-use Rattle.ms_join.specs.Composability.{Body, IsTooMany, most_things}
-use Rattle.ms_join.specs.Modules.{Join, IsInput, IsJoin, IsJoined, IsWellFormed, no_join}
-use Rattle.ms_cone.specs.declared.uses.Use.{Use}
-use Rattle.ms_cone.specs.Uses.{Keeps}
-use Rattle.ms_module.specs.Bodies.{AreBodiesOf, AddsBodies}
+use Rattle.ms_join.specs.Composability.{IsTooMany, most_things}
+use Rattle.ms_join.specs.Things.{Body}
+use Rattle.ms_join.specs.Modules.{Join, HasSets, IsInput, IsJoin, IsJoined, IsWellFormed, no_join}
+use Rattle.ms_cone.specs.Dependencies.{Keeps, Linked}
+use Rattle.ms_possible.proofs.Inputs.{input_from, input_of}
+use Rattle.ms_module.specs.Bodies.{AreBodiesOf, AddsBodies, ArePlain}
 use Rattle.ms_module.specs.Inputs.{AreInputs, Assigns, Releases, Declares, Withdraws}
 use Rattle.ms_module.specs.Joins.{IsKept}
 use Rattle.ms_module.proofs.BodyLaws.{AreBodiesOf-more, AreBodiesOf-none}
+use Rattle.ms_module.proofs.ThingLaws.{many_atoms}
 
--- an input in the list, and its atom
-pub input_from : (j : Join) (i : Input) → Contains j.inputs i → IsInput j i.atom
-input_from j i (k, within, is) = (k, i, within, is, refl)
-
-record InputOf (inputs : List Input) (a : ℕ) : Type 0 where
-  input : Input
-  there : Contains inputs input
-  atom : input.atom ≡ a
-
-input_of : (j : Join) (a : ℕ) → IsInput j a → InputOf j.inputs a
-input_of j a (k, x, within, is, atom) = record { input = x; there = (k, within, is); atom = atom }
-
-pub kept_none : (uses : List Use) → Keeps uses [] → IsKept no_join [] uses
+pub kept_none : (uses : Linked) → Keeps uses [] → IsKept no_join [] uses
 kept_none uses keeps = record {
   join = record {
     over = record { rules = λ k d within. absurd (omega arith); inputs = λ k d within. absurd (omega arith) };
+    bodies = λ k d within. absurd (omega arith);
     once = λ i j d less within. absurd (omega arith);
     outputs = λ k d within. absurd (omega arith);
   };
   bodies_are = AreBodiesOf-none;
-  uses_are = keeps;
+  dependencies_are = keeps;
 }
 
 -- a join whose rules stay, and that has no new inputs
-kept_still : (old new : Join) (bodies : List Body) (uses : List Use) → new.atoms ≡ old.atoms → new.rules ≡ old.rules
+kept_still : (old new : Join) (bodies : List Body) (uses : Linked) → new.atoms ≡ old.atoms → new.rules ≡ old.rules
     → ((i : Input) → Contains new.inputs i → IsInput old i.atom) → AreInputs new → IsKept old bodies uses → IsKept new bodies uses
 kept_still old new bodies uses atoms rules inputs are kept = record {
   join = record {
@@ -54,6 +45,7 @@ kept_still old new bodies uses atoms rules inputs are kept = record {
       rules = subst (λ n. All (IsRuleOver n) new.rules) (sym atoms) (subst (λ rs. All (IsRuleOver old.atoms) rs) (sym rules) kept.join.over.rules);
       inputs = are.within;
     };
+    bodies = subst (λ rs. All HasSets rs) (sym rules) kept.join.bodies;
     once = are.once;
     outputs = subst (λ rs. All (λ (rule : GroundRule). IfSome rule.head (λ h. ¬ IsInput new h)) rs) (sym rules)
         (All-weaker (λ (rule : GroundRule). IfSome rule.head (λ h. ¬ IsInput old h)) (λ (rule : GroundRule). IfSome rule.head (λ h. ¬ IsInput new h))
@@ -61,7 +53,7 @@ kept_still old new bodies uses atoms rules inputs are kept = record {
         (λ h not_old is_new. let of = input_of new h is_new in not_old (subst (IsInput old) of.atom (inputs of.input of.there)))) old.rules kept.join.outputs);
   };
   bodies_are = subst (AreBodiesOf bodies) (sym rules) kept.bodies_are;
-  uses_are = subst (Keeps uses) (sym rules) kept.uses_are;
+  dependencies_are = subst (Keeps uses) (sym rules) kept.dependencies_are;
 }
   where
     IfSome-weaker : (o : Option ℕ) (P Q : ℕ → Type 0) → ((h : ℕ) → P h → Q h) → IfSome o P → IfSome o Q
@@ -69,7 +61,7 @@ kept_still old new bodies uses atoms rules inputs are kept = record {
     IfSome-weaker (Some h) P Q f p = f h p
 
 -- after an input got a value
-pub kept_assigned : (old new : Join) (bodies : List Body) (uses : List Use) (a : ℕ) (value : Option Bool) (effect : Effect) → Assigns old a value new effect → AreInputs new
+pub kept_assigned : (old new : Join) (bodies : List Body) (uses : Linked) (a : ℕ) (value : Option Bool) (effect : Effect) → Assigns old a value new effect → AreInputs new
     → IsKept old bodies uses → IsKept new bodies uses
 kept_assigned old new bodies uses a value Done is are kept =
     kept_still old new bodies uses is.1.atoms is.1.rules
@@ -80,7 +72,7 @@ kept_assigned old new bodies uses a value Done is are kept =
 kept_assigned old new bodies uses a value NoEffect is are kept = subst (λ j. IsKept j bodies uses) (sym is.1) kept
 
 -- after an input became an output
-pub kept_released : (old new : Join) (bodies : List Body) (uses : List Use) (a : ℕ) (effect : Effect) → Releases old a new effect → AreInputs new
+pub kept_released : (old new : Join) (bodies : List Body) (uses : Linked) (a : ℕ) (effect : Effect) → Releases old a new effect → AreInputs new
     → IsKept old bodies uses → IsKept new bodies uses
 kept_released old new bodies uses a Done is are kept =
     kept_still old new bodies uses is.1.atoms is.1.rules (λ i has. input_from old i ((is.1.inputs i).0 has).0) are kept
@@ -123,11 +115,12 @@ joined old m mid new is appends =
     })
 
 -- rules over some atoms are over more
-rule_over_more : (m n : ℕ) → m ≤ n → (rule : GroundRule) → IsRuleOver m rule → IsRuleOver n rule
+pub rule_over_more : (m n : ℕ) → m ≤ n → (rule : GroundRule) → IsRuleOver m rule → IsRuleOver n rule
 rule_over_more m n le rule over = record {
   head = head_more m n le rule.kind rule.head over.head;
   pos = All-weaker (λ a. a < m) (λ a. a < n) (λ a less. omega arith) rule.pos over.pos;
   neg = All-weaker (λ a. a < m) (λ a. a < n) (λ a less. omega arith) rule.neg over.neg;
+  plain = over.plain;
 }
   where
     head_more : (m n : ℕ) → m ≤ n → (kind : GroundKind) (head : Option ℕ) → HasHead m kind head → HasHead n kind head
@@ -181,6 +174,7 @@ join_from_joined old m new join formed is are =
             formed.rules));
         inputs = are.within;
       };
+      bodies = subst (λ rs. All HasSets rs) (sym is.rules) (All-append HasSets old.rules m.rules join.bodies formed.bodies);
       once = are.once;
       outputs = subst (λ rs. All (λ (rule : GroundRule). IfSome rule.head (λ h. ¬ IsInput new h)) rs) (sym is.rules)
           (All-append (λ (rule : GroundRule). IfSome rule.head (λ h. ¬ IsInput new h)) old.rules m.rules
@@ -199,28 +193,27 @@ join_from_joined old m new join formed is are =
     any_known (Some h) = tt
 
 -- and what is kept is that of the join
-pub kept_joined : (old : Join) (m : GroundModule) (new : Join) (bodies more : List Body) (uses : List Use) (later : List Use)
+pub kept_joined : (old : Join) (m : GroundModule) (new : Join) (bodies more : List Body) (uses later : Linked)
     → IsKept old bodies uses → IsWellFormed old.atoms m → IsJoined old m new → AreInputs new → AddsBodies bodies m.rules more
     → ((before : List GroundRule) → Keeps uses before → Keeps later (before ++ m.rules)) → IsKept new more later
 kept_joined old m new bodies more uses later kept formed is are adds keeps = record {
   join = join_from_joined old m new kept.join formed is are;
   bodies_are = subst (AreBodiesOf more) (sym is.rules) (AreBodiesOf-more bodies more old.rules m.rules kept.bodies_are adds);
-  uses_are = subst (Keeps later) (sym is.rules) (keeps old.rules kept.uses_are);
+  dependencies_are = subst (Keeps later) (sym is.rules) (keeps old.rules kept.dependencies_are);
 }
 
 -- a join has few atoms where it has not too many things
 pub few_atoms : (j : Join) (m : GroundModule) → ¬ IsTooMany j m → j.atoms + m.fresh < 2 ^ 32
 few_atoms j m few = elim (cases_lt most_things (j.atoms + m.fresh)) [
-  | inl many ↦ absurd (few (record {
-    bodies = [];
-    each = λ k d within. absurd (omega arith);
-    once = λ i k d less within. absurd (omega arith);
-    many = omega arith;
-  }))
+  | inl many ↦ absurd (few (many_atoms (j.atoms + m.fresh) (j.rules ++ m.rules) many))
   | inr less ↦ (let room : 4000000 < 2 ^ 32 = omega arith in omega arith)
 ]
 
 -- what is kept of a join that was made anew
-pub kept_reset : (j : Join) (bodies : List Body) (uses : List Use) → j ≡ no_join → bodies ≡ [] → Keeps uses [] → IsKept j bodies uses
+pub kept_reset : (j : Join) (bodies : List Body) (uses : Linked) → j ≡ no_join → bodies ≡ [] → Keeps uses [] → IsKept j bodies uses
 kept_reset j bodies uses empty none keeps =
     subst (λ i. IsKept i bodies uses) (sym empty) (subst (λ bs. IsKept no_join bs uses) (sym none) (kept_none uses keeps))
+
+-- rules over a base have no aggregates
+pub plain_rules : (n : ℕ) (rules : List GroundRule) → All (IsRuleOver n) rules → ArePlain rules
+plain_rules n rules over k d within = (over k d within).plain

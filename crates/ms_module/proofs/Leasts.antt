@@ -9,30 +9,29 @@ use Rattle.std.specs.Option.{option_map}
 use Rattle.std.proofs.lemmas.Option.{slice_get-map, get_or_from_slice_get, slice_get_within}
 use Rattle.ms_tree.specs.Tree.{Tree, number}
 use Rattle.ms_tree.specs.Order.{compare_trees}
-use Rattle.ms_term.specs.declared.node.Node.{Node}
-use Rattle.ms_term.specs.Terms.{trees, term_at}
+use Rattle.ms_term.specs.Terms.{term_at}
 use Rattle.ms_term.proofs.Orders.{compare_trees-same}
 use Rattle.ms_join.specs.Composability.{IsLeast, name_of}
 use Rattle.ms_module.specs.Names.{names_of, IsLesser}
-use Rattle.ms_module.proofs.Orders.{less_trans}
+use Rattle.ms_term.proofs.TotalOrder.{compare_trees_total}
 use Rattle.ms_module.proofs.Changes.{next_atom}
 
 -- the term of an atom of the base
-pub name-at : (nodes : List Node) (base : List ℕ) (a t : ℕ) → slice_get base a ≡ Some t → name_of (names_of nodes base) a ≡ term_at (trees nodes) t
-name-at nodes base a t is =
-    get_or_from_slice_get (map (term_at (trees nodes)) base) a (term_at (trees nodes) t) (number (pos 0))
-    (slice_get-map (term_at (trees nodes)) base a ∙ ap (option_map (term_at (trees nodes))) is)
+pub name-at : (table : List Tree) (base : List ℕ) (a t : ℕ) → slice_get base a ≡ Some t → name_of (names_of table base) a ≡ term_at table t
+name-at table base a t is =
+    get_or_from_slice_get (map (term_at table) base) a (term_at table t) (number (pos 0))
+    (slice_get-map (term_at table) base a ∙ ap (option_map (term_at table)) is)
 
 -- the term of an atom is one of the table
 pub named : (bound a t : ℕ) (base : List ℕ) → All (λ t. t < bound) base → slice_get base a ≡ Some t → t < bound
 named bound a t base all is =
     subst (λ n. n < bound) (get_or_from_slice_get base a t t is) (all a t (slice_get_within base a t is))
 
-pub lesser_from : (nodes : List Node) (base : List ℕ) (a b s t : ℕ) (o : Ordering) → slice_get base a ≡ Some s → slice_get base b ≡ Some t
-    → o ≡ compare_trees (term_at (trees nodes) s) (term_at (trees nodes) t) → o ≡ compare_trees (name_of (names_of nodes base) a) (name_of (names_of nodes base) b)
-lesser_from nodes base a b s t o at_a at_b is =
-    is ∙ (ap (λ x. compare_trees x (term_at (trees nodes) t)) (sym (name-at nodes base a s at_a))
-    ∙ ap (λ x. compare_trees (name_of (names_of nodes base) a) x) (sym (name-at nodes base b t at_b)))
+pub lesser_from : (table : List Tree) (base : List ℕ) (a b s t : ℕ) (o : Ordering) → slice_get base a ≡ Some s → slice_get base b ≡ Some t
+    → o ≡ compare_trees (term_at table s) (term_at table t) → o ≡ compare_trees (name_of (names_of table base) a) (name_of (names_of table base) b)
+lesser_from table base a b s t o at_a at_b is =
+    is ∙ (ap (λ x. compare_trees x (term_at table t)) (sym (name-at table base a s at_a))
+    ∙ ap (λ x. compare_trees (name_of (names_of table base) a) x) (sym (name-at table base b t at_b)))
 
 -- the least so far: it is one of the atoms, and none of the first ones is less
 pub record IsBest (names : List Tree) (atoms : List ℕ) (seen : List ℕ) (best : ℕ) : Type 0 where
@@ -51,7 +50,7 @@ best_more names atoms i a best next is within at lesser =
         least = λ b seen below.
             let under : compare_trees (name_of names b) (name_of names a) ≡ Less = subst (λ n. compare_trees (name_of names b) (name_of names n) ≡ Less) less.0 below in
             elim (Contains-push_cases (take i atoms) a b seen) [
-              | inl before ↦ is.least b before (less_trans (name_of names b) (name_of names a) (name_of names best) under less.1)
+              | inl before ↦ is.least b before (compare_trees_total.trans (name_of names b) (name_of names a) (name_of names best) under less.1)
               | inr last ↦
                   let same : compare_trees (name_of names a) (name_of names a) ≡ Less = subst (λ n. compare_trees (name_of names n) (name_of names a) ≡ Less) (sym last) under in
                   let equal = compare_trees-same (name_of names a) in

@@ -6,6 +6,7 @@ pub mod InputLaws
 pub mod JoinLaws
 pub mod Leasts
 pub mod ConeLoops
-pub mod Orders
+pub mod PossibleLaws
+pub mod ThingLaws
 pub mod TooMany
 pub mod Verdicts

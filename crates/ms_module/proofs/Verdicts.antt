@@ -1,11 +1,16 @@
 -- What the parts of the test of a module say of it.
 use Rattle.std.proofs.Common.{◌≡◌, ◌↔◌, ℕ, ◌+◌, Bool, true, false, IsTrue, Some, None, List, [], ◌++◌, sym, ◌∙◌, subst, arith, Contains}
+use Rattle.std.specs.List.{Any}
 use Rattle.std.proofs.lemmas.Bool.{false≢true}
+use Rattle.std.proofs.lemmas.List.Elements.{All-contains}
 use Rattle.ms_tree.specs.Tree.{Tree}
+use Rattle.ms_join.specs.declared.aggregate.SignedAgg.{SignedAgg}
 use Rattle.ms_join.specs.declared.ground_rule.GroundRule.{GroundRule}
 use Rattle.ms_join.specs.declared.ground_module.GroundModule.{GroundModule}
 use Rattle.ms_join.specs.Modules.{Join, IsOutput}
-use Rattle.ms_join.specs.Composability.{HasTooMany, IsTooMany, IsRedefined, IsLeast, IsFirstLoop, IsComposable}
+use Rattle.ms_join.specs.Composability.{HasTooMany, IsTooMany, IsRecursive, IsRedefined, IsLeast, IsFirstLoop, IsComposable}
+use Rattle.ms_cone.specs.Dependencies.{NeedsInSigned}
+use Rattle.ms_module.specs.Bodies.{ArePlain}
 use Rattle.ms_module.specs.declared.loops.CrossLoop.{CrossLoop}
 use Rattle.ms_module.specs.Faults.{AreThose, FindsLoop}
 use Rattle.ms_module.proofs.Leasts.{least_of}
@@ -36,5 +41,14 @@ pub first_loop : (names : List Tree) (j : Join) (m : GroundModule) (l : CrossLoo
     → IsFirstLoop names j m l.new_head l.old
 first_loop names j m l few different finds = record { few = few; different = different; new_head = finds.0; old = finds.1 }
 
-pub composable : (names : List Tree) (j : Join) (m : GroundModule) → ¬ IsTooMany j m → ((h : ℕ) → ¬ IsRedefined j m h) → FindsLoop names j m None → IsComposable j m
-composable names j m few different finds = record { few = few; different = different; no_loop = finds }
+-- no rule has aggregates
+no_recursion : (j : Join) (m : GroundModule) → ArePlain (j.rules ++ m.rules) → (h : ℕ) → ¬ IsRecursive j m h
+no_recursion j m plain h recursive =
+    let (k, rule, within, at, depends) = recursive.depends in
+    let empty = All-contains (λ (r : GroundRule). r.aggs ≡ []) (j.rules ++ m.rules) rule plain (k, within, at) in
+    let inside : Any (NeedsInSigned recursive.other) [] = subst (λ (ss : List SignedAgg). Any (NeedsInSigned recursive.other) ss) empty depends.1 in
+    let less = inside.2 in
+    omega (arith, less)
+
+pub composable : (names : List Tree) (j : Join) (m : GroundModule) → ArePlain (j.rules ++ m.rules) → ¬ IsTooMany j m → ((h : ℕ) → ¬ IsRedefined j m h) → FindsLoop names j m None → IsComposable j m
+composable names j m plain few different finds = record { few = few; different = different; no_loop = finds; no_recursion = no_recursion j m plain }

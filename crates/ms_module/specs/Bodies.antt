@@ -1,12 +1,16 @@
 -- The bodies of rules, where equal bodies are one.
-use Rattle.std.specs.Prelude.{ℕ, ◌≡◌, ◌≢◌, ◌⊎◌, ◌++◌, List, AllPairs, Any, Contains, length}
+use Rattle.std.specs.Prelude.{ℕ, ◌≡◌, ◌≢◌, ◌⊎◌, ◌++◌, List, [], All, AllPairs, Any, Contains, length}
 use Rattle.ms_join.specs.declared.ground_rule.GroundRule.{GroundRule}
-use Rattle.ms_join.specs.Composability.{Body, body_of}
+use Rattle.ms_join.specs.Things.{Body, body_of}
 use Rattle.ms_module.specs.declared.bodies.BodyKey.{BodyKey}
+
+-- rules without aggregates
+abbrev pub ArePlain : List GroundRule → Type 0
+ArePlain rules = All (λ rule. rule.aggs ≡ []) rules
 
 -- the body of a key
 abbrev pub shown : BodyKey → Body
-shown key = record { pos = key.pos.items; neg = key.neg.items }
+shown key = record { pos = key.pos.items; neg = key.neg.items; aggs = [] }
 
 abbrev pub IsBodyIn : List GroundRule → Body → Type 0
 IsBodyIn rules b = Any (λ rule. body_of rule ≡ b) rules

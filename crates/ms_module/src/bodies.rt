@@ -1,8 +1,8 @@
-// The bodies of rules, where equal ones are one.
+// The bodies of rules without aggregates, where equal ones are one.
 ghost use Rattle.std.specs.Prelude.{◌≡◌, ◌+◌, List, [], ◌∷◌, ◌++◌, length, OnOk, IfOk};
 ghost use Rattle.ms_join.specs.declared.ground_rule.GroundRule.{GroundRule};
-ghost use Rattle.ms_join.specs.Composability.{body_of};
-ghost use Rattle.ms_module.specs.Bodies.{shown, AddsBodies, CountsBodies, AreMissing};
+ghost use Rattle.ms_join.specs.Things.{body_of};
+ghost use Rattle.ms_module.specs.Bodies.{shown, AddsBodies, ArePlain, CountsBodies, AreMissing};
 
 use indexmap::IndexSet;
 use ms_base::atom_id::AtomId;
@@ -26,7 +26,7 @@ pub(crate) struct Bodies {
 
 impl Model for Bodies {
     ghost use Rattle.std.specs.Prelude.{List, map};
-    ghost use Rattle.ms_join.specs.Composability.{Body};
+    ghost use Rattle.ms_join.specs.Things.{Body};
     ghost use Rattle.ms_module.specs.Bodies.{shown};
 
     ghost Value = { List Body };
@@ -45,6 +45,7 @@ impl Bodies {
 
     /// Adds the bodies of rules. After an error some of them may be there.
     pub fn add(&mut self, alloc: Global, rules: &[GroundRule]) -> Result<(), OutOfMemory>
+        requires { ArePlain rules.now }
         ensures { OnOk result (AddsBodies self.old rules.now self.new) }
     {
         for rule in rules {
@@ -54,6 +55,7 @@ impl Bodies {
     }
 
     fn add_one(&mut self, alloc: Global, rule: &GroundRule) -> Result<(), OutOfMemory>
+        requires { rule.now.aggs ≡ [] }
         ensures { OnOk result (AddsBodies self.old (rule.now ∷ []) self.new) }
     {
         self.keys.insert(key_of(alloc, rule)?)?;
@@ -62,6 +64,7 @@ impl Bodies {
 
     /// How many bodies there are together with those of the rules.
     pub fn count_with(&self, alloc: Global, rules: &[GroundRule]) -> Result<usize, OutOfMemory>
+        requires { ArePlain rules.now }
         ensures { IfOk result (CountsBodies self.now rules.now) }
     {
         let mut missing = Bodies::new(alloc);
@@ -78,6 +81,7 @@ impl Bodies {
         rule: &GroundRule,
         missing: &mut Bodies,
     ) -> Result<(), OutOfMemory>
+        requires { rule.now.aggs ≡ [] }
         ensures { OnOk result ((before : List GroundRule) → AreMissing self.now before missing.old → AreMissing self.now (before ++ rule.now ∷ []) missing.new) }
     {
         let key = key_of(alloc, rule)?;
@@ -89,6 +93,7 @@ impl Bodies {
 }
 
 fn key_of(alloc: Global, rule: &GroundRule) -> Result<BodyKey, OutOfMemory>
+    requires { rule.now.aggs ≡ [] }
     ensures { IfOk result (λ key. shown key ≡ body_of rule.now) }
 {
     Ok(BodyKey {

@@ -1,6 +1,6 @@
 // The test whether a module can be joined.
 ghost use Rattle.std.specs.Prelude.{◌≡◌, ℕ, ◌+◌, ◌<◌, ◌↔◌, ◌++◌, All, length, IsTrue, IfOk, MatchOption};
-ghost use Rattle.ms_term.specs.Terms.{trees};
+ghost use Rattle.ms_module.specs.Bodies.{ArePlain};
 ghost use Rattle.ms_join.specs.Composability.{Checks, HasTooMany, IsLeast, IsRedefined};
 ghost use Rattle.ms_join.specs.Modules.{IsOutput, IsWellFormed};
 ghost use Rattle.ms_module.specs.Names.{names_of};
@@ -10,6 +10,7 @@ use crate::join::Join;
 use crate::least::least;
 use ms_atombase::AtomBase;
 use ms_base::atom_id::AtomId;
+use ms_base::limits::MOST_THINGS;
 use ms_base::memory::OutOfMemory;
 use ms_join::ground_module::GroundModule;
 use ms_join::ground_rule::GroundRule;
@@ -17,12 +18,10 @@ use ms_join::join_fault::JoinFault;
 use ms_term::Terms;
 use std::alloc::Global;
 
-/// How many things a join may have.
-const MOST_THINGS: usize = 4_000_000;
-
 impl Join {
     /// Whether a module can be joined. The base is that of the join with the module's new atoms, and its terms are those
-    /// of the table. The time follows the module, and the part of the join that reaches an old atom with a new rule.
+    /// of the table. The time follows the module, and the lesser of what its heads that are in the base before
+    /// depend on and what depends on them.
     ///
     /// Errors: the first that holds of the faults, with the least atoms in term order, or want of memory.
     pub fn check(
@@ -33,7 +32,7 @@ impl Join {
         m: &GroundModule,
     ) -> Result<(), JoinFault>
         requires well_formed { IsWellFormed self.now.atoms m.now }
-        requires named { All (λ t. t < length (trees terms.now)) base.now }
+        requires named { All (λ t. t < length terms.now) base.now }
         requires base { length base.now ≡ self.now.atoms + m.now.fresh }
         ensures { Checks (names_of terms.now base.now) self.now m.now result }
     {
@@ -52,7 +51,7 @@ impl Join {
         m: &GroundModule,
     ) -> Result<Option<JoinFault>, OutOfMemory>
         requires well_formed { IsWellFormed self.now.atoms m.now }
-        requires named { All (λ t. t < length (trees terms.now)) base.now }
+        requires named { All (λ t. t < length terms.now) base.now }
         requires base { length base.now ≡ self.now.atoms + m.now.fresh }
         ensures { IfOk result (Finds (names_of terms.now base.now) self.now m.now) }
     {
@@ -82,7 +81,7 @@ impl Join {
         base: &AtomBase,
         m: &GroundModule,
     ) -> Result<Option<AtomId>, OutOfMemory>
-        requires named { All (λ t. t < length (trees terms.now)) base.now }
+        requires named { All (λ t. t < length terms.now) base.now }
         requires heads { All (λ a. a < length base.now) m.now.heads }
         ensures { IfOk result (λ first. MatchOption first ((h : ℕ) → ¬ IsRedefined self.now m.now h) (IsLeast (names_of terms.now base.now) (IsRedefined self.now m.now))) }
     {
@@ -100,7 +99,9 @@ impl Join {
         atoms: u32,
         rules: &[GroundRule],
     ) -> Result<bool, OutOfMemory>
-        ensures { IfOk result (λ many. IsTrue many ↔ HasTooMany atoms (self.now.rules ++ rules.now)) }
+        requires { ArePlain rules.now }
+        ensures tells { IfOk result (λ many. IsTrue many ↔ HasTooMany atoms (self.now.rules ++ rules.now)) }
+        ensures plain { IfOk result (λ many. ArePlain (self.now.rules ++ rules.now)) }
     {
         let bodies = self.bodies.count_with(alloc, rules)?;
         Ok(bodies.saturating_add(atoms as usize) > MOST_THINGS)

@@ -1,10 +1,11 @@
 // Joins of ground modules.
-ghost use Rattle.std.specs.Prelude.{◌≡◌, ◌+◌, ◌^◌, ◌<◌, ◌++◌, List, All, OnOk, OnErr, MatchOption, Contains};
+ghost use Rattle.std.specs.Prelude.{◌≡◌, ◌↔◌, ℕ, ◌+◌, ◌^◌, ◌<◌, ◌++◌, Bool, List, All, OnOk, OnErr, MatchOption, Contains};
 ghost use Rattle.ms_join.specs.declared.ground_rule.GroundRule.{GroundRule};
 ghost use Rattle.ms_join.specs.AnswerSets.{AreRulesOver};
 ghost use Rattle.ms_join.specs.Composability.{IsComposable};
 ghost use Rattle.ms_join.specs.Modules.{IsInput, IsJoin, IsJoined, IsWellFormed, no_join, rules_of, value_of};
-ghost use Rattle.ms_cone.specs.Uses.{Keeps};
+ghost use Rattle.ms_join.specs.Possible.{IsPossible, cut};
+ghost use Rattle.ms_cone.specs.Dependencies.{Keeps};
 ghost use Rattle.ms_module.specs.Bodies.{AddsBodies};
 ghost use Rattle.ms_module.specs.Inputs.{AreInputs, Assigns, Releases};
 
@@ -12,10 +13,10 @@ use crate::bodies::Bodies;
 use crate::state::State;
 use ms_base::atom_id::AtomId;
 use ms_base::memory::OutOfMemory;
+use ms_base::truth::{Effect, Truth};
 use ms_cone::Dependencies;
 use ms_join::ground_module::GroundModule;
 use ms_join::ground_rule::Rules;
-use ms_base::truth::{Effect, Truth};
 use std::alloc::Global;
 use std::marker::Model;
 
@@ -54,12 +55,13 @@ impl Join {
     }
 
     /// Adds a module that passes `check`. A declared external that is no head becomes an input with the value false, where it
-    /// isn't in the base yet, and an input that is a head becomes an output. The time follows the module. After an error
-    /// the join is that of no modules.
-    pub fn join(&mut self, m: GroundModule) -> Result<(), OutOfMemory>
-        requires well_formed { IsWellFormed self.old.atoms m }
-        requires composable { IsComposable self.old m }
-        ensures ok { OnOk result (IsJoined self.old m self.new) }
+    /// isn't in the base yet, and an input that is a head becomes an output. What is possible then was possible before,
+    /// for the atoms that were there. The time follows the module. After an error the join is that of no modules.
+    pub fn join(&mut self, m: &GroundModule) -> Result<(), OutOfMemory>
+        requires well_formed { IsWellFormed self.old.atoms m.now }
+        requires composable { IsComposable self.old m.now }
+        ensures ok { OnOk result (IsJoined self.old m.now self.new) }
+        ensures past { OnOk result ((set : ℕ → Bool) → IsPossible self.new set → IsPossible self.old (cut self.old.atoms set)) }
         ensures err { OnErr result (self.new ≡ no_join) }
     {
         let alloc = self.alloc;
@@ -80,16 +82,19 @@ impl Join {
         }
     }
 
-    /// Gives an input a value. It takes no memory.
+    /// Gives an input a value, which changes nothing of what is possible. It takes no memory.
     pub fn assign(&mut self, a: AtomId, truth: Truth) -> Effect
-        ensures { Assigns self.old a (value_of truth) self.new result }
+        ensures assigns { Assigns self.old a (value_of truth) self.new result }
+        ensures possible { (set : ℕ → Bool) → IsPossible self.old set ↔ IsPossible self.new set }
     {
         self.state.assign(a, truth)
     }
 
-    /// Makes an input an output without a rule, so that it is false for good. It takes no memory.
+    /// Makes an input an output without a rule, so that it is false for good. What is possible then was possible before. It
+    /// takes no memory.
     pub fn release(&mut self, a: AtomId) -> Effect
-        ensures { Releases self.old a self.new result }
+        ensures releases { Releases self.old a self.new result }
+        ensures past { (set : ℕ → Bool) → IsPossible self.new set → IsPossible self.old set }
     {
         self.state.release(a)
     }
@@ -124,15 +129,15 @@ fn add_module(
     state: &mut State,
     bodies: &mut Bodies,
     dependencies: &mut Dependencies,
-    m: GroundModule,
+    m: &GroundModule,
 ) -> Result<(), OutOfMemory>
-    requires well_formed { IsWellFormed state.old.atoms m }
-    requires few { state.old.atoms + m.fresh < 2 ^ 32 }
+    requires well_formed { IsWellFormed state.old.atoms m.now }
+    requires few { state.old.atoms + m.now.fresh < 2 ^ 32 }
     requires inputs { All (λ i. i.atom < state.old.atoms) state.old.inputs }
-    ensures joined { OnOk result (IsJoined state.old m state.new) }
+    ensures joined { OnOk result (IsJoined state.old m.now state.new) }
     ensures inputs { OnOk result (AreInputs state.new) }
-    ensures bodies { OnOk result (AddsBodies bodies.old m.rules bodies.new) }
-    ensures uses { OnOk result ((before : List GroundRule) → Keeps dependencies.old before → Keeps dependencies.new (before ++ m.rules)) }
+    ensures bodies { OnOk result (AddsBodies bodies.old m.now.rules bodies.new) }
+    ensures uses { OnOk result ((before : List GroundRule) → Keeps dependencies.old before → Keeps dependencies.new (before ++ m.now.rules)) }
 {
     bodies.add(alloc, m.rules.as_slice())?;
     dependencies.add(m.rules.as_slice())?;

@@ -1,6 +1,5 @@
 // The least of atoms in the order of their terms.
 ghost use Rattle.std.specs.Prelude.{◌≡◌, ◌<◌, [], All, Contains, MatchOption, length};
-ghost use Rattle.ms_term.specs.Terms.{trees};
 ghost use Rattle.ms_tree.specs.Order.{compare_trees};
 ghost use Rattle.ms_join.specs.Composability.{IsLeast, name_of};
 ghost use Rattle.ms_module.specs.Names.{names_of, IsLesser};
@@ -12,7 +11,7 @@ use std::cmp::Ordering;
 
 /// The least of the atoms by their terms, or none exactly where there are no atoms.
 pub(crate) fn least(terms: &Terms, base: &AtomBase, atoms: &[AtomId]) -> Option<AtomId>
-    requires named { All (λ t. t < length (trees terms.now)) base.now }
+    requires named { All (λ t. t < length terms.now) base.now }
     requires within { All (λ a. a < length base.now) atoms.now }
     ensures { MatchOption result (atoms.now ≡ []) (IsLeast (names_of terms.now base.now) (Contains atoms.now)) }
 {
@@ -25,7 +24,7 @@ pub(crate) fn least(terms: &Terms, base: &AtomBase, atoms: &[AtomId]) -> Option<
 
 /// The first atom where its term is less, and else the second.
 fn lesser(terms: &Terms, base: &AtomBase, a: AtomId, b: AtomId) -> AtomId
-    requires named { All (λ t. t < length (trees terms.now)) base.now }
+    requires named { All (λ t. t < length terms.now) base.now }
     requires a_within { a < length base.now }
     requires b_within { b < length base.now }
     ensures { IsLesser (names_of terms.now base.now) a b result }

@@ -3,6 +3,7 @@
 
 mod bodies;
 mod check;
+mod copies;
 mod join;
 mod least;
 mod loops;

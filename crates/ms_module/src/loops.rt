@@ -1,6 +1,5 @@
 // Loops through the heads of a module and the outputs of a join.
 ghost use Rattle.std.specs.Prelude.{◌≡◌, ℕ, ◌+◌, ◌<◌, ◌≤◌, Some, IsTrue, ◌↔◌, All, Contains, length, IfOk, MatchOption};
-ghost use Rattle.ms_term.specs.Terms.{trees};
 ghost use Rattle.ms_join.specs.Modules.{IsOutput, IsWellFormed};
 ghost use Rattle.ms_join.specs.Composability.{IsLeast};
 ghost use Rattle.ms_cone.specs.Cones.{number_of};
@@ -35,13 +34,16 @@ impl Join {
         m: &GroundModule,
     ) -> Result<Option<CrossLoop>, OutOfMemory>
         requires well_formed { IsWellFormed self.now.atoms m.now }
-        requires named { All (λ t. t < length (trees terms.now)) base.now }
+        requires named { All (λ t. t < length terms.now) base.now }
         requires base { length base.now ≡ self.now.atoms + m.now.fresh }
         ensures { IfOk result (FindsLoop (names_of terms.now base.now) self.now m.now) }
     {
-        let starts = self.old_among(alloc, m.heads.as_slice())?;
+        let starts = self.state.old_among(alloc, m.heads.as_slice())?;
+        if starts.is_empty() {
+            return Ok(None);
+        }
         let rules = m.rules.as_slice();
-        let cone = Cone::reaching(
+        let cone = Cone::around(
             alloc,
             &self.dependencies,
             rules,
@@ -61,7 +63,7 @@ impl Join {
         heads: &[AtomId],
         cone: &Cone,
     ) -> Result<Option<CrossLoop>, OutOfMemory>
-        requires named { All (λ t. t < length (trees terms.now)) base.now }
+        requires named { All (λ t. t < length terms.now) base.now }
         requires heads { All (λ a. a < length base.now) heads.now }
         requires base { self.now.atoms ≤ length base.now }
         ensures { IfOk result (FindsInCone (names_of terms.now base.now) self.now cone.now heads.now) }
@@ -91,7 +93,7 @@ impl Join {
         cone: &Cone,
         a: AtomId,
     ) -> Result<Option<AtomId>, OutOfMemory>
-        requires named { All (λ t. t < length (trees terms.now)) base.now }
+        requires named { All (λ t. t < length terms.now) base.now }
         requires base { self.now.atoms ≤ length base.now }
         requires outputs { AreThose cone.now.members (IsOutput self.now) outputs.now }
         requires member { HasNumber cone.now a }
@@ -102,19 +104,6 @@ impl Join {
             Some(old) => Ok(Some(old)),
             None => Ok(None),
         }
-    }
-
-    /// The atoms that the base has.
-    fn old_among(&self, alloc: Global, atoms: &[AtomId]) -> Result<Vec<AtomId>, OutOfMemory>
-        ensures { IfOk result (λ v. AreThose atoms.now (λ a. a < self.now.atoms) v.items) }
-    {
-        let mut found = Vec::new(alloc);
-        for a in atoms {
-            if self.state.has_atom(*a) {
-                found.push(*a)?;
-            }
-        }
-        Ok(found)
     }
 
     /// The outputs in a cone.

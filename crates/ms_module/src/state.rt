@@ -1,15 +1,17 @@
 // The rules and inputs of a join.
-ghost use Rattle.std.specs.Prelude.{◌≡◌, ℕ, ◌+◌, ◌^◌, ◌<◌, ◌↔◌, ◌∷◌, [], ◌++◌, Some, false, IsTrue, All, MatchOption, OnOk, Contains};
+ghost use Rattle.std.specs.Prelude.{◌≡◌, ℕ, ◌+◌, ◌^◌, ◌<◌, ◌↔◌, ◌∷◌, [], ◌++◌, Some, false, IsTrue, All, IfOk, MatchOption, OnOk, Contains};
 ghost use Rattle.ms_join.specs.AnswerSets.{IsAtomSet};
 ghost use Rattle.ms_join.specs.Modules.{IsInput, IsJoined, IsOutput, IsWellFormed, no_join, rules_of, value_of};
+ghost use Rattle.ms_module.specs.Faults.{AreThose};
 ghost use Rattle.ms_module.specs.Inputs.{IsInputAt, Assigns, Releases, AreInputs, Declares, Withdraws};
 
+use crate::copies::copy_rules;
 use ms_base::atom_id::AtomId;
 use ms_base::memory::OutOfMemory;
 use ms_base::seq::Seq;
+use ms_base::truth::{Effect, Truth};
 use ms_join::ground_module::GroundModule;
 use ms_join::ground_rule::{GroundRules, Input, Rules};
-use ms_base::truth::{Effect, Truth};
 use std::alloc::Global;
 use std::marker::Model;
 use std::mem;
@@ -27,6 +29,7 @@ pub(crate) struct State {
 impl Model for State {
     ghost use Rattle.std.specs.Prelude.{length};
     ghost use Rattle.ms_join.specs.Modules.{Join};
+    ghost use Rattle.ms_module.specs.Faults.{AreThose};
     ghost use Rattle.ms_module.specs.Inputs.{ArePlaced};
 
     ghost Value = { Join };
@@ -88,6 +91,19 @@ impl State {
         (a.0 as usize) < self.places.len()
     }
 
+    /// Those of the atoms that the base has.
+    pub fn old_among(&self, alloc: Global, atoms: &[AtomId]) -> Result<Vec<AtomId>, OutOfMemory>
+        ensures { IfOk result (λ v. AreThose atoms.now (λ a. a < self.now.atoms) v.items) }
+    {
+        let mut found = Vec::new(alloc);
+        for a in atoms {
+            if self.has_atom(*a) {
+                found.push(*a)?;
+            }
+        }
+        Ok(found)
+    }
+
     pub fn is_output(&self, a: AtomId) -> bool
         ensures { IsTrue result ↔ IsOutput self.now a }
     {
@@ -124,16 +140,17 @@ impl State {
         Effect::Done
     }
 
-    /// Adds a module.
-    pub fn add(&mut self, m: GroundModule) -> Result<(), OutOfMemory>
-        requires well_formed { IsWellFormed self.old.atoms m }
-        requires few { self.old.atoms + m.fresh < 2 ^ 32 }
+    /// Adds a module, of which the rules are copied.
+    pub fn add(&mut self, m: &GroundModule) -> Result<(), OutOfMemory>
+        requires well_formed { IsWellFormed self.old.atoms m.now }
+        requires few { self.old.atoms + m.now.fresh < 2 ^ 32 }
         requires inputs { All (λ i. i.atom < self.old.atoms) self.old.inputs }
-        ensures joined { OnOk result (IsJoined self.old m self.new) }
+        ensures joined { OnOk result (IsJoined self.old m.now self.new) }
         ensures inputs { OnOk result (AreInputs self.new) }
     {
-        self.add_atoms(&m)?;
-        self.append(m.rules)?;
+        self.add_atoms(m)?;
+        let rules = copy_rules(self.alloc, m.rules.as_slice())?;
+        self.append(rules)?;
         Ok(())
     }
 

@@ -1,2 +1,3 @@
 pub mod Laws
-mod Scans
+pub mod Scans
+pub mod Found

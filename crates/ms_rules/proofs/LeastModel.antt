@@ -12,7 +12,7 @@ use Rattle.ms_join.specs.declared.ground_rule.Input.{Input}
 use Rattle.ms_join.specs.declared.ground_rule.Rules.{Rules}
 use Rattle.ms_join.specs.declared.ground_rule.GroundKind.{GroundKind}
 use Rattle.ms_join.specs.declared.ground_rule.GroundKind.TheVariants.{Normal, Choice, Constraint}
-use Rattle.ms_join.specs.AnswerSets.{has_all, has_none, Keeps, KeepsInput, IsReductModel, IsRuleOver, HasHead}
+use Rattle.ms_join.specs.AnswerSets.{has_all, side_holds, Keeps, KeepsInput, IsReductModel, IsRuleOver, HasHead}
 use Rattle.ms_rules.specs.Flags.{flag_at}
 use Rattle.ms_rules.specs.LeastModel.{AsksFor, MayAsk, IsMarking, IsWithinModels, unmarked_count}
 
@@ -23,17 +23,17 @@ list_all-larger p q h (x ∷ xs) e =
     let parts = and_parts (p x) (list_all p xs) e in
     and_from (q x) (list_all q xs) (h x parts.0) (list_all-larger p q h xs parts.1)
 
-kept_by_kind : (by of : ℕ → Bool) (kind : GroundKind) (rule : GroundRule) (a : ℕ) → MayAsk by kind a → IsTrue (has_none by rule.neg) → IsTrue (has_all of rule.pos) → rule.head ≡ Some a → Keeps by of kind rule → IsTrue (of a)
-kept_by_kind by of Normal rule a may neg pos head keeps = MatchOption-at_some ⊤ (λ h. IsTrue (of h)) a head (keeps neg pos)
-kept_by_kind by of Choice rule a may neg pos head keeps =
-    MatchOption-at_some ⊤ (λ h. IsTrue (by h) → IsTrue (has_none by rule.neg) → IsTrue (has_all of rule.pos) → IsTrue (of h)) a head keeps may neg pos
-kept_by_kind by of Constraint rule a may neg pos head keeps = absurd may
+kept_by_kind : (by of : ℕ → Bool) (kind : GroundKind) (rule : GroundRule) (a : ℕ) → MayAsk by kind a → IsTrue (side_holds by rule) → IsTrue (has_all of rule.pos) → rule.head ≡ Some a → Keeps by of kind rule → IsTrue (of a)
+kept_by_kind by of Normal rule a may side pos head keeps = MatchOption-at_some ⊤ (λ h. IsTrue (of h)) a head (keeps side pos)
+kept_by_kind by of Choice rule a may side pos head keeps =
+    MatchOption-at_some ⊤ (λ h. IsTrue (by h) → IsTrue (side_holds by rule) → IsTrue (has_all of rule.pos) → IsTrue (of h)) a head keeps may side pos
+kept_by_kind by of Constraint rule a may side pos head keeps = absurd may
 
 -- what a rule asks for is in each model
 pub asked_in_models : (join : Rules) (by of : ℕ → Bool) (k : ℕ) (rule : GroundRule) (a : ℕ) → k < length join.rules → rule ≡ get_or join.rules k rule → IsWithinModels join by of → AsksFor by of rule a → (other : ℕ → Bool) → IsReductModel join by other → IsTrue (other a)
 asked_in_models join by of k rule a lt read below asks other model =
     let keeps : Keeps by other rule.kind rule = subst (λ r. Keeps by other r.kind r) (sym read) (model.rules k rule lt) in
-    kept_by_kind by other rule.kind rule a asks.kind asks.neg (list_all-larger of other (below.within other model) rule.pos asks.pos) asks.head keeps
+    kept_by_kind by other rule.kind rule a asks.kind asks.side (list_all-larger of other (below.within other model) rule.pos asks.pos) asks.head keeps
 
 -- a mark keeps the marks that are there
 pub marks_stay : (flags : List Bool) (a b : ℕ) → a < length flags → IsTrue (flag_at flags b) → IsTrue (flag_at (set flags a true) b)

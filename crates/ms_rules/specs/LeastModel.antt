@@ -5,7 +5,7 @@ use Rattle.ms_join.specs.declared.ground_rule.Input.{Input}
 use Rattle.ms_join.specs.declared.ground_rule.Rules.{Rules}
 use Rattle.ms_join.specs.declared.ground_rule.GroundKind.{GroundKind}
 use Rattle.ms_join.specs.declared.ground_rule.GroundKind.TheVariants.{Normal, Choice, Constraint}
-use Rattle.ms_join.specs.AnswerSets.{has_all, has_none, IsReductModel, Keeps, KeepsInput}
+use Rattle.ms_join.specs.AnswerSets.{has_all, side_holds, IsReductModel, Keeps, KeepsInput}
 use Rattle.ms_rules.specs.declared.least_model.Progress.{Progress}
 use Rattle.ms_rules.specs.declared.least_model.Progress.TheVariants.{Still, Marked, Outside}
 use Rattle.ms_rules.specs.Flags.{flag_at}
@@ -19,7 +19,7 @@ MayAsk by Constraint a = ⊥
 -- In the reduct by the set `by`, the rule asks for the atom, which the set `of` lacks.
 pub record AsksFor (by of : ℕ → Bool) (rule : GroundRule) (a : ℕ) : Type 0 where
   pub kind : MayAsk by rule.kind a
-  pub neg : IsTrue (has_none by rule.neg)
+  pub side : IsTrue (side_holds by rule)
   pub pos : IsTrue (has_all of rule.pos)
   pub head : rule.head ≡ Some a
   pub lacks : of a ≡ false

@@ -1,2 +1,5 @@
 pub mod Flags
 pub mod LeastModel
+pub mod Room
+pub mod State
+pub mod Waiting

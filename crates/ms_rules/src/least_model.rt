@@ -1,10 +1,10 @@
 // The least model of the reduct of a join by a set, as a fixed point.
-ghost use Rattle.std.specs.Prelude.{◌≡◌, ◌<◌, All, length, MatchOption, MatchBool, IsTrue, ◌↔◌};
+ghost use Rattle.std.specs.Prelude.{◌≡◌, ◌<◌, [], All, length, MatchOption, MatchBool, IsTrue, ◌↔◌};
 ghost use Rattle.ms_join.specs.AnswerSets.{AreRulesOver, IsReductModel, Keeps};
 ghost use Rattle.ms_rules.specs.LeastModel.{AreMarked, AsksFor, IsFact, IsLeastModel, IsMarking, MayAsk, Progresses};
 ghost use Rattle.ms_rules.specs.Flags.{flag_at};
 
-use crate::flags::{has_all, has_none, is_marked};
+use crate::flags::{has_all, is_marked, side_holds};
 use ms_base::atom_id::AtomId;
 use ms_join::ground_rule::{GroundKind, GroundRule, Input, Rules};
 
@@ -20,7 +20,7 @@ pub(crate) enum Progress {
 }
 
 /// Whether a rule of this kind may ask for its head. A choice may where the head is in the set.
-fn may_ask(kind: GroundKind, in_set: &[bool], head: AtomId) -> bool
+pub(crate) fn may_ask(kind: GroundKind, in_set: &[bool], head: AtomId) -> bool
     ensures { IsTrue result ↔ MayAsk (flag_at in_set.now) kind head }
 {
     match kind {
@@ -32,6 +32,7 @@ fn may_ask(kind: GroundKind, in_set: &[bool], head: AtomId) -> bool
 
 /// The head that the rule asks for and that isn't marked yet.
 fn missing_head(rule: &GroundRule, in_set: &[bool], derived: &[bool]) -> Option<AtomId>
+    requires { rule.now.aggs ≡ [] }
     ensures { MatchOption result
         (Keeps (flag_at in_set.now) (flag_at derived.now) rule.now.kind rule.now)
         (AsksFor (flag_at in_set.now) (flag_at derived.now) rule.now) }
@@ -39,7 +40,7 @@ fn missing_head(rule: &GroundRule, in_set: &[bool], derived: &[bool]) -> Option<
     let head = rule.head?;
     if may_ask(rule.kind, in_set, head)
         && !is_marked(derived, head)
-        && has_none(in_set, rule.neg.as_slice())
+        && side_holds(rule, in_set)
         && has_all(derived, rule.pos.as_slice())
     {
         Some(head)
@@ -62,7 +63,7 @@ fn fact_of(input: &Input, in_set: &[bool]) -> Option<AtomId>
 }
 
 /// Marks the inputs that are facts, and no other atoms.
-fn mark_inputs(inputs: &[Input], in_set: &[bool], derived: &mut [bool])
+pub(crate) fn mark_inputs(inputs: &[Input], in_set: &[bool], derived: &mut [bool])
     requires over_base { All (λ i. i.atom < length derived.old) inputs.now }
     ensures { AreMarked inputs.now (flag_at in_set.now) (flag_at derived.new) }
 {

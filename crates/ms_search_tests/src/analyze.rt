@@ -1,7 +1,8 @@
 ghost use Rattle.std.specs.Prelude.{◌≡◌, ◌≢◌, ◌<◌, ◌≤◌, [], All, AllPairs, IfOk, IfSome, IsTrue, false, true};
 ghost use Rattle.ms_lits.specs.declared.lit.Lit.{Lit};
 ghost use Rattle.ms_nogood.specs.Propagation.{IsWholeAt, IsWithin};
-ghost use Rattle.ms_analyze.specs.Analysis.{AreReasoned, HasLevel, IsOnlyDecision};
+ghost use Rattle.ms_refutation.specs.Sets.{AreReasoned};
+ghost use Rattle.ms_analyze.specs.Analysis.{HasLevel, IsOnlyDecision};
 
 use ms_analyze::{Learned, OutOfMemory, analyze};
 use ms_lits::{Lit, Trail};

@@ -1,8 +1,8 @@
-ghost use Rattle.std.specs.Prelude.{◌≡◌, ◌≢◌, ◌<◌, All, AllPairs, IfOk, true, refl, []};
+ghost use Rattle.std.specs.Prelude.{◌≡◌, ◌≢◌, ◌<◌, All, AllPairs, IfOk};
 ghost use Rattle.ms_nogood.specs.Propagation.{IsWithin};
 
 use ms_lits::Trail;
-use ms_nogood::{Kind, Lit, Nogoods, OutOfMemory, Scan, Theory, Verdict};
+use ms_nogood::{Kind, Lit, Nogoods, OutOfMemory, Plain, Propagate, Scan, Theory, Verdict};
 use std::alloc::Global;
 use std::test::Fail;
 
@@ -38,15 +38,47 @@ fn kinds(rt: HostRuntime) -> Result<(), Fail> {
     assert_eq!(rt; store.get(key), [ZERO, NOT_ONE].as_slice());
     assert_eq!(rt; store.kind(key), Kind::Kept);
     assert_eq!(rt; store.keys_from(0), Some(key));
-    assert_eq!(rt; store.trims_from(0, 0), Some(key));
-    assert_eq!(rt; store.trims_from(1, 0), None);
-    let passing = store.add(&[TWO], Kind::Reason)?;
-    assert_eq!(rt; store.ends_from(0), Some(passing));
+    assert_eq!(rt; store.trimmed(0), [key].as_slice());
+    assert_eq!(rt; store.trimmed(1), [].as_slice());
+    let reason = store.add(&[TWO], Kind::Reason)?;
+    assert!(rt; store.ends(reason));
+    assert_eq!(rt; store.passing(), [reason].as_slice());
+    assert_eq!(rt; store.fresh(), [key, reason].as_slice());
     store.end_solve();
-    assert_eq!(rt; store.ends_from(0), None);
+    assert!(rt; !store.contains(reason));
+    assert_eq!(rt; store.passing(), [].as_slice());
     assert_eq!(rt; store.keys_from(0), Some(key));
     store.trim(0);
     assert_eq!(rt; store.keys_from(0), None);
+    store.forget_fresh();
+    assert_eq!(rt; store.fresh(), [].as_slice());
+    Ok(())
+}
+
+#[test]
+fn drops_one(rt: HostRuntime) -> Result<(), Fail> {
+    let mut store = Nogoods::new(rt.alloc());
+    let kept = store.add(&[ZERO], Kind::Kept)?;
+    let key = store.add(&[TWO], Kind::Temporary)?;
+    assert!(rt; store.ends(key));
+    store.drop_passing(key);
+    assert!(rt; !store.contains(key));
+    assert!(rt; store.contains(kept));
+    Ok(())
+}
+
+#[test]
+fn attaches(rt: HostRuntime) -> Result<(), Fail> {
+    let mut store = Nogoods::new(rt.alloc());
+    let trail = Trail::new(rt.alloc());
+    let mut plain = Plain::new(rt.alloc());
+    let key = store.add(&[ZERO, ONE], Kind::Base)?;
+    assert!(rt; !plain.attached(key));
+    plain.attach(&store, &trail, key)?;
+    assert!(rt; plain.attached(key));
+    plain.back_to(0);
+    plain.detach(key);
+    assert!(rt; !plain.attached(key));
     Ok(())
 }
 
@@ -138,24 +170,26 @@ fn scans(rt: HostRuntime) -> Result<(), Fail> {
     Ok(())
 }
 
-/// It accepts everything.
+/// It gives nothing.
 #[derive(Drop)]
 struct Silent;
 
 impl Theory for Silent {
     ghost vars = { λ _. 0 };
 
-    ghost leans_on = { λ _. [] };
+    ghost leans_on = { λ _ _. ⊥ };
 
-    ghost Settled = { λ _ _. true ≡ true };
+    ghost Settled = { λ _ _. Unit {0} };
 
-    ghost Accepts = { λ _ _. true ≡ true };
+    ghost Gives = { λ _ _. ⊥ };
 
-    ghost accepted = { λ _ _ _ _ _ _. refl };
+    ghost accepted = { λ _ _ _ _ _ _ _ given _. given };
 
     fn check(&mut self, _trail: &Trail) -> Result<Verdict, OutOfMemory> {
         Ok(Verdict::Quiet)
     }
+
+    fn back_to(&mut self, _len: usize) {}
 }
 
 #[test]

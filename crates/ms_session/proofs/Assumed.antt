@@ -14,7 +14,7 @@ use Rattle.ms_tree.specs.Tree.{Tree}
 use Rattle.ms_call.specs.declared.command.Assumption.{Assumption}
 use Rattle.ms_call.specs.declared.command.Command.TheVariants.{Solve}
 use Rattle.ms_join.specs.declared.assumption.AtomLit.{AtomLit}
-use Rattle.ms_join.specs.Assumptions.{IsMeetingAnswer}
+use Rattle.ms_join.specs.Assumptions.{IsMeetingAnswer, MeetsEach}
 use Rattle.ms_core.specs.Texts.{Texts}
 use Rattle.ms_lits.specs.declared.note.Ending.{Ending}
 use Rattle.ms_lits.specs.declared.note.Ending.TheVariants.{Complete, StillOpen, Cut}
@@ -180,3 +180,7 @@ none_step table texts base join assume asked limit shown few some none is = (
   λ cut. cc,
   refl,
 )
+
+-- literals that the same sets meet
+pub meet_alike : (names : List Tree) (assume : List Assumption) (lits alike : List AtomLit) → ((set : List ℕ) → MeetsEach set alike ↔ MeetsEach set lits) → MeetSame names assume lits → MeetSame names assume alike
+meet_alike names assume lits alike same h set = (λ met. (same set).1 ((h set).0 met), λ met. (h set).1 ((same set).0 met))

@@ -48,21 +48,22 @@ are_below (suc n) =
 are_things : (n : ℕ) (rules : List GroundRule) → All (IsThing n rules) (atoms_below n)
 are_things n rules = All-weaker (λ t. (a : ℕ) × (a < n) × (t ≡ atom a)) (IsThing n rules) (λ t h. subst (IsThing n rules) (sym h.2) h.1) (atoms_below n) (are_below n)
 
-atoms_differ : (n m : ℕ) → n < m → atom m ≡ atom n → ⊥
-atoms_differ n m less same = let equal : m ≡ n = ap number_in same in omega (arith, equal, less) where {
-  number_in : Thing → ℕ
-  number_in (atom a) = a
-  number_in (body b) = 0
-  number_in (tuple t) = 0
-  number_in (aggregate g) = 0
-}
+number_of : Thing → ℕ
+number_of (atom a) = a
+number_of (body b) = 0
+number_of (tuple t) = 0
+number_of (aggregate g) = 0
+
+atoms_differ : (n m : ℕ) → m < n → atom n ≡ atom m → ⊥
+unfolding number_of
+atoms_differ n m less same = let equal : n ≡ m = ap number_of same in omega (arith, equal, less)
 
 each_once : (n : ℕ) → AllPairs (λ t u. t ≢ u) (atoms_below n)
 unfolding atoms_below
 each_once zero = λ i k d lt below. absurd (omega arith)
 each_once (suc n) =
     AllPairs-cons (λ t u. t ≢ u) (atom n) (atoms_below n)
-    (All-weaker (λ t. (a : ℕ) × (a < n) × (t ≡ atom a)) (λ u. atom n ≢ u) (λ t h same. atoms_differ h.0 n h.1 (same ∙ h.2)) (atoms_below n) (are_below n))
+    (All-weaker (λ t. (a : ℕ) × (a < n) × (t ≡ atom a)) (λ u. atom n ≢ u) (λ t h same. atoms_differ n h.0 h.1 (same ∙ h.2)) (atoms_below n) (are_below n))
     (each_once n)
 
 -- a join that isn't too large has few atoms

@@ -49,14 +49,15 @@ lacks_row ts [] i v h e lacks = absurd (omega arith)
 lacks_row ts (first ∷ vs) zero v h e lacks = inl (subst (λ (x : Value). HasNo ts (tree_of_value x)) e lacks)
 lacks_row ts (first ∷ vs) (suc i) v h e lacks = inr (lacks_row ts vs i v (omega arith) e lacks)
 
+-- a table that has each of some terms lacks none of them
+clash : (ts : List Tree) (args : Trees) → HasEach ts args → LacksOne ts args → ⊥
+clash ts no_tree has lacks = lacks
+clash ts (tree t rest) has (inl none) = has.0 none
+clash ts (tree t rest) has (inr later) = clash ts rest has.1 later
+
 -- a table that has the arguments of its functions has no function with an argument that it lacks
 pub no_function : (ts : List Tree) (f : List ℕ) (args : Trees) → AreWhole ts → LacksOne ts args → HasNo ts (function f args)
-no_function ts f args whole lacks i within is = clash args (whole i f args within is) lacks where {
-  clash : (rest : Trees) → HasEach ts rest → LacksOne ts rest → ⊥
-  clash no_tree has lacks = lacks
-  clash (tree t rest) has (inl none) = has.0 none
-  clash (tree t rest) has (inr later) = clash rest has.1 later
-}
+no_function ts f args whole lacks i within is = clash ts args (whole i f args within is) lacks
 
 pub all_named : (ts : List Tree) (names : List ℕ) (vs : List Value) (i : ℕ) (all : Trees)
     → length vs ≤ i → before ts names (row_from vs i) ≡ all → terms_at ts names ≡ all

@@ -50,7 +50,16 @@ pub(crate) fn solve_join(
     match numbered(alloc, terms, base, assume.as_slice())? {
         Some(lits) => {
             let lits = each_once(lits);
-            list_answers(alloc, parts, terms, base, join, count, limit, lits.as_slice())
+            list_answers(
+                alloc,
+                parts,
+                terms,
+                base,
+                join,
+                count,
+                limit,
+                lits.as_slice(),
+            )
         }
         None => Ok(Reply::Solved {
             ending: Ending::Complete,

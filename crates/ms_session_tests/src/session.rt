@@ -31,40 +31,20 @@ fn found(alloc: Global, session: &mut Session, name: &str) -> Result<Option<Atom
 }
 
 #[test]
-fn finds_an_atom_of_the_base(rt: HostRuntime) -> Result<(), Fail> {
+fn an_input_is_found_assigned_and_released(rt: HostRuntime) -> Result<(), Fail> {
     let alloc = rt.alloc();
     let mut session = Session::new(alloc);
     grounds(alloc, &mut session, b"#external e.")?;
     let e = found(alloc, &mut session, "e")?;
-    assert!(rt; e == Some(AtomId(0)), "the only atom");
-    Ok(())
-}
-
-#[test]
-fn finds_no_other_atom(rt: HostRuntime) -> Result<(), Fail> {
-    let mut session = Session::new(rt.alloc());
-    let z = found(rt.alloc(), &mut session, "z")?;
-    assert!(rt; z.is_none(), "the base is empty");
-    Ok(())
-}
-
-#[test]
-fn assigns_an_input(rt: HostRuntime) -> Result<(), Fail> {
-    let alloc = rt.alloc();
-    let mut session = Session::new(alloc);
-    grounds(alloc, &mut session, b"#external e.")?;
-    let done = session.assign(AtomId(0), Truth::True)?;
-    assert!(rt; done == Effect::Done, "an input");
-    Ok(())
-}
-
-#[test]
-fn releases_an_input(rt: HostRuntime) -> Result<(), Fail> {
-    let alloc = rt.alloc();
-    let mut session = Session::new(alloc);
-    grounds(alloc, &mut session, b"#external e.")?;
-    let done = session.release(AtomId(0))?;
-    assert!(rt; done == Effect::Done, "an input");
+    let z = found(alloc, &mut session, "z")?;
+    let assigned = session.assign(AtomId(0), Truth::True)?;
+    let released = session.release(AtomId(0))?;
+    assert_eq!(rt; (e, z), (Some(AtomId(0)), None), "the only atom");
+    assert_eq!(rt;
+        (assigned, released),
+        (Effect::Done, Effect::Done),
+        "an input"
+    );
     Ok(())
 }
 

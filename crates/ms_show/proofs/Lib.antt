@@ -1,3 +1,4 @@
 mod Filtered
 mod ListOrder
 mod ShownLists
+pub mod LineFronts

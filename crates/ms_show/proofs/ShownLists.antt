@@ -11,7 +11,7 @@ use Rattle.ms_machine.specs.Machine.{shows_atom}
 use Rattle.ms_term.specs.Terms.{term_at, name_in, arguments_in}
 use Rattle.ms_join.specs.AnswerSets.{IsAtomSet}
 use Rattle.ms_machine.specs.Listing.{HasAtom}
-use Rattle.ms_order.specs.TermOrder.{IsInTermOrder}
+use Rattle.ms_term.specs.TermOrder.{IsInTermOrder}
 use Rattle.ms_show.specs.ShownLists.{AreIn, IsShownOf, name_of, shown_of}
 use Rattle.ms_show.proofs.Filtered.{filtered_contained, filtered_passes, contains_filtered}
 

@@ -4,7 +4,7 @@ ghost use Rattle.std.specs.List.{AllZip};
 ghost use Rattle.std.specs.List.Sorted.{IsPermutation, IsSorted};
 ghost use Rattle.std.specs.Cmp.Lexicographic.{slice_cmp};
 ghost use Rattle.ms_tree.specs.Order.{compare_trees};
-ghost use Rattle.ms_term.specs.Terms.{trees, term_at, AllDifferent};
+ghost use Rattle.ms_term.specs.Terms.{term_at};
 ghost use Rattle.ms_join.specs.AnswerSets.{IsAtomSet};
 ghost use Rattle.ms_machine.specs.Listing.{IsListing};
 ghost use Rattle.ms_machine.specs.Machine.{shows_atom};
@@ -15,16 +15,15 @@ use ms_base::memory::OutOfMemory;
 use ms_base::seq::Seq;
 use ms_join::ground_module::TermIds;
 use ms_machine::reply::Shown;
-use ms_order::{compare_lists, in_term_order};
 use ms_parts::Parts;
 use ms_rules::AtomSet;
-use ms_term::{TermId, Terms};
+use ms_term::{TermId, Terms, compare_lists, in_term_order};
 use std::alloc::Global;
 
 /// Whether the texts show the atom.
 fn is_shown(terms: &Terms, parts: &Parts, atom: TermId) -> bool
-    requires { atom < length (trees terms.now) }
-    ensures { result ≡ shows_atom parts.now (term_at (trees terms.now) atom) }
+    requires { atom < length terms.now }
+    ensures { result ≡ shows_atom parts.now (term_at terms.now atom) }
 {
     match terms.name_of(atom) {
         Some(name) => parts.shows(name, terms.args_of(atom).len()),
@@ -40,10 +39,10 @@ fn shown_terms(
     parts: &Parts,
     set: &AtomSet,
 ) -> Result<Vec<TermId>, OutOfMemory>
-    requires base { AreIn (trees terms.now) base.now }
+    requires base { AreIn terms.now base.now }
     requires over_base { IsAtomSet (length base.now) set.now }
     ensures { IfOk result
-        (λ shown. shown.items ≡ shown_of (trees terms.now) (shows_atom parts.now) base.now set.now) }
+        (λ shown. shown.items ≡ shown_of terms.now (shows_atom parts.now) base.now set.now) }
 {
     let mut shown = Vec::new(alloc);
     for atom in set.as_slice() {
@@ -63,10 +62,9 @@ fn shown_list(
     parts: &Parts,
     set: &AtomSet,
 ) -> Result<TermIds, OutOfMemory>
-    requires base { AreIn (trees terms.now) base.now }
-    requires different { AllDifferent (trees terms.now) }
+    requires base { AreIn terms.now base.now }
     requires over_base { IsAtomSet (length base.now) set.now }
-    ensures { IfOk result (IsShownOf (trees terms.now) (shows_atom parts.now) base.now set.now) }
+    ensures { IfOk result (IsShownOf terms.now (shows_atom parts.now) base.now set.now) }
 {
     let shown = shown_terms(alloc, terms, base, parts, set)?;
     Ok(in_term_order(terms, shown))
@@ -80,11 +78,10 @@ fn shown_lists(
     parts: &Parts,
     sets: &[AtomSet],
 ) -> Result<Vec<TermIds>, OutOfMemory>
-    requires base { AreIn (trees terms.now) base.now }
-    requires different { AllDifferent (trees terms.now) }
+    requires base { AreIn terms.now base.now }
     requires over_base { All (IsAtomSet (length base.now)) sets.now }
     ensures { IfOk result
-        (λ lists. AllZip (IsShownOf (trees terms.now) (shows_atom parts.now) base.now) sets.now lists.items) }
+        (λ lists. AllZip (IsShownOf terms.now (shows_atom parts.now) base.now) sets.now lists.items) }
 {
     let mut lists = Vec::with_capacity(alloc, sets.len())?;
     for set in sets {
@@ -96,7 +93,7 @@ fn shown_lists(
 /// Puts lists of terms in order. A list comes before each that it begins.
 fn in_list_order(terms: &Terms, mut lists: Vec<TermIds>) -> Shown
     ensures same { IsPermutation lists.items result }
-    ensures ordered { IsSorted (slice_cmp compare_trees) (map (map (term_at (trees terms.now))) result) }
+    ensures ordered { IsSorted (slice_cmp compare_trees) (map (map (term_at terms.now)) result) }
 {
     lists.sort_unstable_by(|one, other| compare_lists(terms, one.as_slice(), other.as_slice()));
     Seq::from_vec(lists)
@@ -113,14 +110,12 @@ pub fn listing(
     parts: &Parts,
     sets: &[AtomSet],
 ) -> Result<Shown, OutOfMemory>
-    requires named { AreIn (trees terms.now) base.now }
+    requires named { AreIn terms.now base.now }
     requires over_base { All (IsAtomSet (length base.now)) sets.now }
     ensures listing { IfOk result (λ shown. IsListing (shows_atom parts.now)
-        (map (term_at (trees terms.now)) base.now) sets.now (map (map (term_at (trees terms.now))) shown)) }
-    ensures named { IfOk result (All (AreIn (trees terms.now))) }
+        (map (term_at terms.now) base.now) sets.now (map (map (term_at terms.now)) shown)) }
+    ensures named { IfOk result (All (AreIn terms.now)) }
 {
-    // different names have different terms
-    let _ = terms.len();
     let lists = shown_lists(alloc, terms, base, parts, sets)?;
     Ok(in_list_order(terms, lists))
 }

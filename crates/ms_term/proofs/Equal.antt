@@ -1,36 +1,26 @@
 -- Nodes are equal exactly where their terms are.
-use Rattle.std.proofs.Common.{◌≡◌, ℕ, Bool, true, false, ◌&&◌, List, [], ◌∷◌, length, refl, ℤ, Vec, Global, ap, nat_eq}
+use Rattle.std.proofs.Common.{◌≡◌, ℕ, Bool, true, false, ◌&&◌, List, [], ◌∷◌, length, refl, ap, nat_eq}
 use Rattle.std.specs.Cmp.Lexicographic.{pointwise}
-use Rattle.std.specs.Ordering.{int_eq}
 use Rattle.std.proofs.lemmas.Slice.Eq.{bytes_eq-Decides}
 use Rattle.std.proofs.lemmas.Bool.{and_parts}
 use Rattle.std.proofs.lemmas.Bool.Decides.{Decides-int_eq, Decides-eqb}
-use Rattle.smallvec.specs.declared.small_vec.SmallVec.{SmallVec}
 use Rattle.ms_tree.specs.Tree.{Tree, number, text}
 use Rattle.ms_term.specs.declared.node.Node.{Node}
 use Rattle.ms_term.specs.declared.node.Node.TheVariants.{Number, Text, Function}
 use Rattle.ms_term.specs.contracts.node.NodePartialEq.TheImpl.{eq-value}
-use Rattle.ms_term.specs.Terms.{term_at, terms_at, tree_of, AllBelow, ArgumentsBelow, node_size, AllDifferent}
+use Rattle.ms_term.specs.Terms.{term_at, terms_at, AllBelow, AllDifferent}
+use Rattle.ms_term.specs.Tables.{tree_of, ArgumentsBelow, WordBelow, node_size}
+use Rattle.ms_term.specs.Words.{word_at, AreOnce}
 
 abbrev pub node_eq : Node → Node → Bool
 node_eq a b = (eq-value).it a b
 
-numbers-eq : (m n : ℤ) → node_eq (Number m) (Number n) ≡ int_eq m n
-numbers-eq m n = refl
-
-texts-eq : (s t : Vec ℕ Global) → node_eq (Text s) (Text t) ≡ pointwise nat_eq s.items t.items
-texts-eq s t = refl
-
-functions-eq : (f g : Vec ℕ Global) (xs ys : SmallVec ℕ 4 Global) (k l : ℕ)
-    → node_eq (Function f xs k) (Function g ys l) ≡ (pointwise nat_eq f.items g.items && (pointwise nat_eq xs.items ys.items && nat_eq k l))
-functions-eq f g xs ys k l = refl
-
-both_true : (x y : Bool) → x ≡ true → y ≡ true → (x && y) ≡ true
+pub both_true : (x y : Bool) → x ≡ true → y ≡ true → (x && y) ≡ true
 both_true true true p q = refl
 both_true true false p q = q
 both_true false y p q = p
 
-terms-same : (ts : List Tree) → AllDifferent ts → (is js : List ℕ) → AllBelow (length ts) is → AllBelow (length ts) js
+pub terms-same : (ts : List Tree) → AllDifferent ts → (is js : List ℕ) → AllBelow (length ts) is → AllBelow (length ts) js
     → terms_at ts is ≡ terms_at ts js → is ≡ js
 terms-same ts d [] [] hi hj e = refl
 terms-same ts d [] (j ∷ js) hi hj e = cc
@@ -43,38 +33,39 @@ terms-same ts d (i ∷ is) (j ∷ js) hi hj e =
     cc
 
 -- equal nodes have the same term
-pub same-from_eq : (ts : List Tree) (a b : Node) → node_eq a b ≡ true → tree_of ts a ≡ tree_of ts b
-same-from_eq ts (Number m) (Number n) e = ap (λ x. number x) ((Decides-int_eq m n).0 e)
-same-from_eq ts (Number m) (Text s) e = cc
-same-from_eq ts (Number m) (Function f xs k) e = cc
-same-from_eq ts (Text s) (Number n) e = cc
-same-from_eq ts (Text s) (Text t) e = ap (λ x. text x) ((bytes_eq-Decides s.items t.items).0 e)
-same-from_eq ts (Text s) (Function f xs k) e = cc
-same-from_eq ts (Function f xs k) (Number n) e = cc
-same-from_eq ts (Function f xs k) (Text t) e = cc
-same-from_eq ts (Function f xs k) (Function g ys l) e =
-    let parts = and_parts (pointwise nat_eq f.items g.items) (pointwise nat_eq xs.items ys.items && nat_eq k l) e in
+pub same-from_eq : (ws : List (List ℕ)) (ts : List Tree) (a b : Node) → node_eq a b ≡ true → tree_of ws ts a ≡ tree_of ws ts b
+same-from_eq ws ts (Number m) (Number n) e = ap (λ x. number x) ((Decides-int_eq m n).0 e)
+same-from_eq ws ts (Number m) (Text s) e = cc
+same-from_eq ws ts (Number m) (Function f xs k) e = cc
+same-from_eq ws ts (Text s) (Number n) e = cc
+same-from_eq ws ts (Text s) (Text t) e = ap (λ x. text (word_at ws x)) ((Decides-eqb s t).0 e)
+same-from_eq ws ts (Text s) (Function f xs k) e = cc
+same-from_eq ws ts (Function f xs k) (Number n) e = cc
+same-from_eq ws ts (Function f xs k) (Text t) e = cc
+same-from_eq ws ts (Function f xs k) (Function g ys l) e =
+    let parts = and_parts (nat_eq f g) (pointwise nat_eq xs.items ys.items && nat_eq k l) e in
     let rest = and_parts (pointwise nat_eq xs.items ys.items) (nat_eq k l) parts.1 in
-    let names : f.items ≡ g.items = (bytes_eq-Decides f.items g.items).0 parts.0 in
+    let names : f ≡ g = (Decides-eqb f g).0 parts.0 in
     let arguments : xs.items ≡ ys.items = (bytes_eq-Decides xs.items ys.items).0 rest.0 in
     cc
 
 -- nodes of one term are equal
-pub eq-from_same : (ts : List Tree) → AllDifferent ts → (a b : Node) → ArgumentsBelow (length ts) a → ArgumentsBelow (length ts) b
-    → node_size a ≡ node_size b → tree_of ts a ≡ tree_of ts b → node_eq a b ≡ true
-eq-from_same ts d (Number m) (Number n) ha hb s e = let same : m ≡ n = cc in (Decides-int_eq m n).1 same
-eq-from_same ts d (Number m) (Text t) ha hb s e = cc
-eq-from_same ts d (Number m) (Function f xs k) ha hb s e = cc
-eq-from_same ts d (Text u) (Number n) ha hb s e = cc
-eq-from_same ts d (Text u) (Text t) ha hb s e = let same : u.items ≡ t.items = cc in (bytes_eq-Decides u.items t.items).1 same
-eq-from_same ts d (Text u) (Function f xs k) ha hb s e = cc
-eq-from_same ts d (Function f xs k) (Number n) ha hb s e = cc
-eq-from_same ts d (Function f xs k) (Text t) ha hb s e = cc
-eq-from_same ts d (Function f xs k) (Function g ys l) ha hb s e =
-    let names : f.items ≡ g.items = cc in
+pub eq-from_same : (ws : List (List ℕ)) (ts : List Tree) → AreOnce ws → AllDifferent ts → (a b : Node) → WordBelow (length ws) a → WordBelow (length ws) b
+    → ArgumentsBelow (length ts) a → ArgumentsBelow (length ts) b
+    → node_size a ≡ node_size b → tree_of ws ts a ≡ tree_of ws ts b → node_eq a b ≡ true
+eq-from_same ws ts o d (Number m) (Number n) wa wb ha hb s e = let same : m ≡ n = cc in (Decides-int_eq m n).1 same
+eq-from_same ws ts o d (Number m) (Text t) wa wb ha hb s e = cc
+eq-from_same ws ts o d (Number m) (Function f xs k) wa wb ha hb s e = cc
+eq-from_same ws ts o d (Text u) (Number n) wa wb ha hb s e = cc
+eq-from_same ws ts o d (Text u) (Text t) wa wb ha hb s e = let same : word_at ws u ≡ word_at ws t = cc in (Decides-eqb u t).1 (o u t wa wb same)
+eq-from_same ws ts o d (Text u) (Function f xs k) wa wb ha hb s e = cc
+eq-from_same ws ts o d (Function f xs k) (Number n) wa wb ha hb s e = cc
+eq-from_same ws ts o d (Function f xs k) (Text t) wa wb ha hb s e = cc
+eq-from_same ws ts o d (Function f xs k) (Function g ys l) wa wb ha hb s e =
+    let names : word_at ws f ≡ word_at ws g = cc in
     let terms : terms_at ts xs.items ≡ terms_at ts ys.items = cc in
     let arguments : xs.items ≡ ys.items = terms-same ts d xs.items ys.items ha hb terms in
-    both_true (pointwise nat_eq f.items g.items) (pointwise nat_eq xs.items ys.items && nat_eq k l)
-    ((bytes_eq-Decides f.items g.items).1 names)
+    both_true (nat_eq f g) (pointwise nat_eq xs.items ys.items && nat_eq k l)
+    ((Decides-eqb f g).1 (o f g wa wb names))
     (both_true (pointwise nat_eq xs.items ys.items) (nat_eq k l)
     ((bytes_eq-Decides xs.items ys.items).1 arguments) ((Decides-eqb k l).1 s))

@@ -1,5 +1,16 @@
-pub mod Tables
 pub mod Equal
+pub mod NodeTables
 pub mod Sizes
+pub mod SmallFronts
+pub mod WordTables
+pub mod Finding
+pub mod Cutting
 pub mod Orders
+pub mod TotalOrder
+pub mod TermSort
+pub mod Inserting
 pub mod Texts
+pub mod FrontLaws
+pub mod Bounds
+pub mod PrintFronts
+pub mod Whole

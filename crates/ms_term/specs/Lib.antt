@@ -1,1 +1,10 @@
 pub mod Terms
+pub mod TermOrder
+pub mod TreeCode
+pub mod Words
+pub mod Comparing
+pub mod Fronts
+pub mod Shapes
+pub mod Tables
+pub mod Wanted
+pub mod LookUps

@@ -1,36 +1,57 @@
-ghost use Rattle.std.specs.Prelude.{◌≡◌, ◌+◌, ◌<◌, ◌++◌, [], length, option_copied, IsTrue, ◌↔◌, IfOk, OnOk, OnErr};
+// Ground terms under names.
+ghost use Rattle.std.specs.Prelude.{◌≡◌, ◌+◌, ◌<◌, ◌≤◌, [], length, take, option_copied, IsTrue, ◌↔◌, IfOk, OnErr, MatchOption};
 ghost use Rattle.ms_tree.specs.Tree.{number, text, function};
-ghost use Rattle.ms_tree.specs.Order.{compare_trees, compare_all};
-ghost use Rattle.ms_tree.specs.Text.{tree_text, after_text};
 ghost use Rattle.ms_tree.specs.Size.{tree_size, sizes};
-ghost use Rattle.ms_term.specs.Terms.{trees, tree_of, term_at, terms_at, held, AllBelow, AllDifferent, Fits, Describes, Names, number_in, text_in, name_in, arguments_in};
+ghost use Rattle.ms_term.specs.Shapes.{IsShapeOf};
+ghost use Rattle.ms_term.specs.Terms.{term_at, terms_at, held, AllBelow, AllDifferent, AreSmall, AreWhole, Names, HasNo, IsNameOf, IsFirstLarge, number_in, text_in, name_in, arguments_in};
 
 use crate::node::{Arguments, Node};
+use crate::shape::Shape;
+use crate::table::Table;
 use crate::term_id::TermId;
-use crate::text::{closing, end_without_arguments, print_number, print_string};
-use indexmap::IndexSet;
+use crate::wanted::Wanted;
+use crate::words::Words;
 use ms_base::memory::OutOfMemory;
 use std::alloc::Global;
-use std::cmp::Ordering;
 use std::marker::Model;
 
-/// Ground terms, each under one name. Contracts see the terms by their names as `trees`.
+/// How many terms a table had at some moment.
+#[derive(Clone, Copy, Debug, PartialEq, Eq)]
+pub struct TermMark {
+    len: usize,
+}
+
+impl Model for TermMark {
+    ghost use Rattle.std.specs.Prelude.{ℕ};
+
+    ghost Value = { ℕ };
+
+    ghost view = { λ m. m.len };
+
+    ghost inverse = { λ n. record { len = n } };
+}
+
+/// Ground terms, each under one name. Contracts see the list of the terms by their names.
 #[derive(Drop)]
 pub struct Terms {
-    nodes: IndexSet<Node>,
+    words: Words,
+    table: Table,
     alloc: Global,
 }
 
 impl Model for Terms {
     ghost use Rattle.std.specs.Prelude.{List};
-    ghost use Rattle.ms_term.specs.declared.node.Node.{Node};
-    ghost use Rattle.ms_term.specs.Terms.{IsTable, trees};
+    ghost use Rattle.ms_tree.specs.Tree.{Tree};
+    ghost use Rattle.ms_term.specs.TreeCode.{trees_code};
+    ghost use Rattle.ms_term.specs.Tables.{IsKept, trees};
 
-    ghost Value = { List Node };
+    ghost Value = { List Tree };
 
-    ghost view = { λ t. t.nodes.keys };
+    ghost coded = { trees_code };
 
-    ghost invariant = { λ t. IsTable t.nodes.keys (trees t.nodes.keys) };
+    ghost view = { λ t. trees t.words t.table.nodes.keys };
+
+    ghost invariant = { λ t. IsKept t.words t.table.nodes.keys t.table.small };
 }
 
 impl Terms {
@@ -39,53 +60,86 @@ impl Terms {
         ensures { result ≡ [] }
     {
         Terms {
-            nodes: IndexSet::new(alloc),
+            words: Words::new(alloc),
+            table: Table::new(alloc),
             alloc,
         }
     }
 
     /// The number of terms. Their names are the numbers below it.
     pub fn len(&self) -> usize
-        ensures len { result ≡ length (trees self.now) }
-        ensures different { AllDifferent (trees self.now) }
+        ensures len { result ≡ length self.now }
+        ensures different { AllDifferent self.now }
+        ensures whole { AreWhole self.now }
     {
-        self.nodes.len()
+        self.table.nodes.len()
     }
 
     pub fn is_empty(&self) -> bool
-        ensures { IsTrue result ↔ (length (trees self.now) ≡ 0) }
+        ensures { IsTrue result ↔ (length self.now ≡ 0) }
     {
         self.len() == 0
     }
 
     /// The name of an integer.
     pub fn number(&mut self, n: i64) -> Result<TermId, OutOfMemory>
-        ensures ok { IfOk result (Names (trees self.old) (trees self.new) (number n)) }
-        ensures err { OnErr result (trees self.new ≡ trees self.old) }
+        ensures ok { IfOk result (Names self.old self.new (number n)) }
+        ensures err { OnErr result (self.new ≡ self.old) }
     {
-        self.insert(Node::Number(n))
+        self.table.insert(Node::Number(n))
     }
 
     /// The name of a string.
     pub fn text(&mut self, bytes: &[u8]) -> Result<TermId, OutOfMemory>
-        ensures ok { IfOk result (Names (trees self.old) (trees self.new) (text bytes.now)) }
-        ensures err { OnErr result (trees self.new ≡ trees self.old) }
+        ensures ok { IfOk result (Names self.old self.new (text bytes.now)) }
+        ensures err { OnErr result (self.new ≡ self.old) }
     {
-        let bytes = Vec::from_slice(self.alloc, bytes)?;
-        self.insert(Node::Text(bytes))
+        let word = self.words.intern(bytes)?;
+        self.table.insert(Node::Text(word))
     }
 
     /// The name of a function, or of a constant where there are no arguments, or of a tuple where the
     /// name is empty. The arguments are names of the table.
     pub fn function(&mut self, name: &[u8], arguments: &[TermId]) -> Result<TermId, OutOfMemory>
-        requires { AllBelow (length (trees self.old)) arguments.now }
-        ensures ok { IfOk result (Names (trees self.old) (trees self.new) (function name.now (terms_at (trees self.old) arguments.now))) }
-        ensures err { OnErr result (trees self.new ≡ trees self.old) }
+        requires { AllBelow (length self.old) arguments.now }
+        ensures ok { IfOk result (Names self.old self.new (function name.now (terms_at self.old arguments.now))) }
+        ensures err { OnErr result (self.new ≡ self.old) }
     {
         let size = self.size_over(arguments);
-        let name = Vec::from_slice(self.alloc, name)?;
         let arguments = Arguments::from_slice(self.alloc, arguments)?;
-        self.insert(Node::Function {
+        let name = self.words.intern(name)?;
+        self.table.insert(Node::Function {
+            name,
+            arguments,
+            size,
+        })
+    }
+
+    /// The name of an integer, or `None` exactly where the table hasn't it.
+    pub fn find_number(&self, n: i64) -> Option<TermId>
+        ensures { MatchOption result (HasNo self.now (number n)) (IsNameOf self.now (number n)) }
+    {
+        self.table.find(Wanted::Number(n))
+    }
+
+    /// The name of a string, or `None` exactly where the table hasn't it.
+    pub fn find_text(&self, bytes: &[u8]) -> Option<TermId>
+        ensures { MatchOption result (HasNo self.now (text bytes.now)) (IsNameOf self.now (text bytes.now)) }
+    {
+        let word = self.words.find(bytes)?;
+        self.table.find(Wanted::Text(word))
+    }
+
+    /// The name of a function, or `None` exactly where the table hasn't it. The arguments are names of the table.
+    pub fn find_function(&self, name: &[u8], arguments: &[TermId]) -> Option<TermId>
+        requires { AllBelow (length self.now) arguments.now }
+        ensures { MatchOption result
+            (HasNo self.now (function name.now (terms_at self.now arguments.now)))
+            (IsNameOf self.now (function name.now (terms_at self.now arguments.now))) }
+    {
+        let name = self.words.find(name)?;
+        let size = self.size_over(arguments);
+        self.table.find(Wanted::Function {
             name,
             arguments,
             size,
@@ -94,44 +148,56 @@ impl Terms {
 
     /// The number of symbols of a term, or the greatest u64 where there are more.
     pub fn size(&self, t: TermId) -> u64
-        requires { t < length (trees self.now) }
-        ensures { result ≡ held (tree_size (term_at (trees self.now) t)) }
+        requires { t < length self.now }
+        ensures { result ≡ held (tree_size (term_at self.now t)) }
     {
-        match self.node(t) {
-            Node::Number(_) | Node::Text(_) => 1,
-            Node::Function { size, .. } => *size,
+        match self.shape(t) {
+            Shape::Number(_) | Shape::Text(_) => 1,
+            Shape::Function { size, .. } => size,
+        }
+    }
+
+    /// The name of the first large term, which has more than 2,000 symbols, or `None` exactly where no
+    /// term is large. It costs no walk.
+    pub fn first_large(&self) -> Option<TermId>
+        ensures { MatchOption result (AreSmall self.now) (IsFirstLarge self.now) }
+    {
+        if self.table.small < self.table.nodes.len() {
+            Some(TermId(self.table.small))
+        } else {
+            None
         }
     }
 
     /// The integer, or `None` exactly where the term is none.
     pub fn number_of(&self, t: TermId) -> Option<i64>
-        requires { t < length (trees self.now) }
-        ensures { result ≡ number_in (term_at (trees self.now) t) }
+        requires { t < length self.now }
+        ensures { result ≡ number_in (term_at self.now t) }
     {
-        match self.node(t) {
-            Node::Number(n) => Some(*n),
+        match self.shape(t) {
+            Shape::Number(n) => Some(n),
             _ => None,
         }
     }
 
     /// The bytes of a string, or `None` exactly where the term is none.
     pub fn text_of(&self, t: TermId) -> Option<&[u8]>
-        requires { t < length (trees self.now) }
-        ensures { option_copied result ≡ text_in (term_at (trees self.now) t) }
+        requires { t < length self.now }
+        ensures { option_copied result ≡ text_in (term_at self.now t) }
     {
-        match self.node(t) {
-            Node::Text(bytes) => Some(bytes.as_slice()),
+        match self.shape(t) {
+            Shape::Text(bytes) => Some(bytes),
             _ => None,
         }
     }
 
     /// The name of a function, empty where it is a tuple, or `None` exactly where the term is none.
     pub fn name_of(&self, t: TermId) -> Option<&[u8]>
-        requires { t < length (trees self.now) }
-        ensures { option_copied result ≡ name_in (term_at (trees self.now) t) }
+        requires { t < length self.now }
+        ensures { option_copied result ≡ name_in (term_at self.now t) }
     {
-        match self.node(t) {
-            Node::Function { name, .. } => Some(name.as_slice()),
+        match self.shape(t) {
+            Shape::Function { name, .. } => Some(name),
             _ => None,
         }
     }
@@ -139,171 +205,57 @@ impl Terms {
     /// The arguments of a function, and none where the term is an integer or a string. Each is a name
     /// below that of the function.
     pub fn args_of(&self, t: TermId) -> &[TermId]
-        requires { t < length (trees self.now) }
-        ensures arguments { terms_at (trees self.now) result.now ≡ arguments_in (term_at (trees self.now) t) }
+        requires { t < length self.now }
+        ensures arguments { terms_at self.now result.now ≡ arguments_in (term_at self.now t) }
         ensures below { AllBelow t result.now }
     {
-        match self.node(t) {
-            Node::Function { arguments, .. } => arguments.as_slice(),
+        match self.shape(t) {
+            Shape::Function { arguments, .. } => arguments,
             _ => &[],
         }
     }
 
-    /// The order of two terms.
-    #[cycle(compare)]
-    pub fn compare(&self, a: TermId, b: TermId) -> Ordering
-        requires a_within { a < length (trees self.now) }
-        requires b_within { b < length (trees self.now) }
-        ensures { result ≡ compare_trees (term_at (trees self.now) a) (term_at (trees self.now) b) }
+    /// The present moment.
+    pub fn mark(&self) -> TermMark
+        ensures { result ≡ length self.now }
     {
-        if a == b {
-            return Ordering::Equal;
-        }
-        match self.node(a) {
-            Node::Number(n) => self.compare_number(*n, b),
-            Node::Text(bytes) => self.compare_text(bytes, b),
+        TermMark { len: self.len() }
+    }
+
+    /// Drops the terms that came after a moment of this table to which it hasn't gone back since. The
+    /// names below stay, and name what they named.
+    pub fn back_to(&mut self, mark: TermMark)
+        requires { mark ≤ length self.old }
+        ensures { self.new ≡ take mark self.old }
+    {
+        self.table.nodes.truncate(mark.len);
+        self.table.small = self.table.small.min(mark.len);
+    }
+
+    /// The parts of a term.
+    pub(crate) fn shape(&self, t: TermId) -> Shape<'_>
+        requires { t < length self.now }
+        ensures { IsShapeOf self.now t result }
+    {
+        match self.table.node(t) {
+            Node::Number(n) => Shape::Number(*n),
+            Node::Text(word) => Shape::Text(self.words.bytes(*word)),
             Node::Function {
                 name,
                 arguments,
-                ..
-            } => self.compare_function(name, arguments.as_slice(), b),
+                size,
+            } => Shape::Function {
+                name: self.words.bytes(*name),
+                arguments: arguments.as_slice(),
+                size: *size,
+            },
         }
-    }
-
-    // The order of an integer and a term.
-    fn compare_number(&self, n: i64, b: TermId) -> Ordering
-        requires { b < length (trees self.now) }
-        ensures { result ≡ compare_trees (number n) (term_at (trees self.now) b) }
-    {
-        match self.node(b) {
-            Node::Number(other) => n.cmp(other),
-            _ => Ordering::Less,
-        }
-    }
-
-    // The order of a string and a term.
-    fn compare_text(&self, bytes: &[u8], b: TermId) -> Ordering
-        requires { b < length (trees self.now) }
-        ensures { result ≡ compare_trees (text bytes.now) (term_at (trees self.now) b) }
-    {
-        match self.node(b) {
-            Node::Number(_) => Ordering::Greater,
-            Node::Text(other) => bytes.cmp(other.as_slice()),
-            Node::Function { .. } => Ordering::Less,
-        }
-    }
-
-    // The order of a function and a term.
-    #[cycle(compare)]
-    fn compare_function(&self, name: &[u8], arguments: &[TermId], b: TermId) -> Ordering
-        requires within { AllBelow (length (trees self.now)) arguments.now }
-        requires b_within { b < length (trees self.now) }
-        ensures { result ≡ compare_trees (function name.now (terms_at (trees self.now) arguments.now)) (term_at (trees self.now) b) }
-    {
-        let Node::Function {
-            name: other_name,
-            arguments: others,
-            ..
-        } = self.node(b)
-        else {
-            return Ordering::Greater;
-        };
-        match arguments.len().cmp(&others.len()) {
-            Ordering::Equal => {}
-            differ => return differ,
-        }
-        match name.cmp(other_name.as_slice()) {
-            Ordering::Equal => self.compare_each(arguments, others.as_slice()),
-            differ => differ,
-        }
-    }
-
-    // The order of two lists of arguments: the first that differ decide.
-    #[cycle(compare)]
-    fn compare_each(&self, arguments: &[TermId], others: &[TermId]) -> Ordering
-        requires within { AllBelow (length (trees self.now)) arguments.now }
-        requires others_within { AllBelow (length (trees self.now)) others.now }
-        ensures { result ≡ compare_all (terms_at (trees self.now) arguments.now) (terms_at (trees self.now) others.now) }
-    {
-        let mut rest = arguments;
-        let mut others_rest = others;
-        while let [first, after @ ..] = rest {
-            let [other, others_after @ ..] = others_rest else {
-                return Ordering::Greater;
-            };
-            match self.compare(*first, *other) {
-                Ordering::Equal => {}
-                differ => return differ,
-            }
-            rest = after;
-            others_rest = others_after;
-        }
-        if others_rest.is_empty() {
-            Ordering::Equal
-        } else {
-            Ordering::Less
-        }
-    }
-
-    /// Appends the text of a term. What `into` holds after an error is open: a part of the text may
-    /// stand in it.
-    #[cycle(print)]
-    pub fn print(&self, t: TermId, into: &mut Vec<u8>) -> Result<(), OutOfMemory>
-        requires { t < length (trees self.now) }
-        ensures { OnOk result (into.new.items ≡ into.old.items ++ tree_text (term_at (trees self.now) t)) }
-    {
-        match self.node(t) {
-            Node::Number(n) => print_number(*n, into),
-            Node::Text(bytes) => print_string(bytes, into),
-            Node::Function {
-                name,
-                arguments,
-                ..
-            } => self.print_function(name, arguments.as_slice(), into),
-        }
-    }
-
-    #[cycle(print)]
-    fn print_function(
-        &self,
-        name: &[u8],
-        arguments: &[TermId],
-        into: &mut Vec<u8>,
-    ) -> Result<(), OutOfMemory>
-        requires { AllBelow (length (trees self.now)) arguments.now }
-        ensures { OnOk result (into.new.items ≡ into.old.items ++ tree_text (function name.now (terms_at (trees self.now) arguments.now))) }
-    {
-        into.extend_from_slice(name)?;
-        let [first, after @ ..] = arguments else {
-            into.extend_from_slice(end_without_arguments(name))?;
-            return Ok(());
-        };
-        into.push(b'(')?;
-        self.print(*first, into)?;
-        self.print_after(after, into)?;
-        into.extend_from_slice(closing(name, after))?;
-        Ok(())
-    }
-
-    // Each argument after a `,`.
-    #[cycle(print)]
-    fn print_after(&self, arguments: &[TermId], into: &mut Vec<u8>) -> Result<(), OutOfMemory>
-        requires { AllBelow (length (trees self.now)) arguments.now }
-        ensures { OnOk result (into.new.items ≡ into.old.items ++ after_text (terms_at (trees self.now) arguments.now)) }
-    {
-        let mut rest = arguments;
-        while let [first, after @ ..] = rest {
-            into.push(b',')?;
-            self.print(*first, into)?;
-            rest = after;
-        }
-        Ok(())
     }
 
     // The size of a function with these arguments.
     fn size_over(&self, arguments: &[TermId]) -> u64
-        requires { AllBelow (length (trees self.now)) arguments.now }
-        ensures { result ≡ held (1 + sizes (terms_at (trees self.now) arguments.now)) }
+        requires { AllBelow (length self.now) arguments.now }
+        ensures { result ≡ held (1 + sizes (terms_at self.now arguments.now)) }
     {
         let mut size: u64 = 1;
         let mut rest = arguments;
@@ -312,23 +264,5 @@ impl Terms {
             rest = after;
         }
         size
-    }
-
-    // The name of a node's term. It costs one look-up.
-    fn insert(&mut self, node: Node) -> Result<TermId, OutOfMemory>
-        requires { Fits (trees self.old) node }
-        ensures ok { IfOk result (Names (trees self.old) (trees self.new) (tree_of (trees self.old) node)) }
-        ensures err { OnErr result (trees self.new ≡ trees self.old) }
-    {
-        let (place, _) = self.nodes.insert_full(node)?;
-        Ok(TermId(place))
-    }
-
-    // The node of a name.
-    fn node(&self, t: TermId) -> &Node
-        requires { t < length (trees self.now) }
-        ensures { Describes (trees self.now) t result.now }
-    {
-        &self.nodes.as_slice()[t.0]
     }
 }

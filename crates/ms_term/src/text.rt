@@ -1,4 +1,5 @@
-ghost use Rattle.std.specs.Prelude.{◌≡◌, ◌∷◌, [], ◌++◌, List, OnOk};
+ghost use Rattle.std.specs.Prelude.{◌≡◌, ◌∷◌, [], ◌++◌, List, OnOk, OnErr};
+ghost use Rattle.ms_term.specs.Fronts.{AppendsFront};
 ghost use Rattle.ms_tree.specs.Tree.{Tree, number, text};
 ghost use Rattle.ms_tree.specs.Text.{tree_text, escaped, escaped_byte, no_arguments_text, closing_text};
 ghost use Rattle.ms_term.specs.Terms.{terms_at};
@@ -8,7 +9,8 @@ use ms_base::memory::OutOfMemory;
 
 // Appends an integer in decimal.
 pub(crate) fn print_number(n: i64, into: &mut Vec<u8>) -> Result<(), OutOfMemory>
-    ensures { OnOk result (into.new.items ≡ into.old.items ++ tree_text (number n)) }
+    ensures ok { OnOk result (into.new.items ≡ into.old.items ++ tree_text (number n)) }
+    ensures err { OnErr result (AppendsFront into.old.items into.new.items (tree_text (number n))) }
 {
     let mut buffer = itoa::Buffer::new();
     into.extend_from_slice(buffer.format(n).as_bytes())?;
@@ -17,7 +19,8 @@ pub(crate) fn print_number(n: i64, into: &mut Vec<u8>) -> Result<(), OutOfMemory
 
 // Appends a string in double quotes.
 pub(crate) fn print_string(bytes: &[u8], into: &mut Vec<u8>) -> Result<(), OutOfMemory>
-    ensures { OnOk result (into.new.items ≡ into.old.items ++ tree_text (text bytes.now)) }
+    ensures ok { OnOk result (into.new.items ≡ into.old.items ++ tree_text (text bytes.now)) }
+    ensures err { OnErr result (AppendsFront into.old.items into.new.items (tree_text (text bytes.now))) }
 {
     into.push(b'"')?;
     print_escaped(bytes, into)?;
@@ -26,7 +29,8 @@ pub(crate) fn print_string(bytes: &[u8], into: &mut Vec<u8>) -> Result<(), OutOf
 }
 
 fn print_escaped(bytes: &[u8], into: &mut Vec<u8>) -> Result<(), OutOfMemory>
-    ensures { OnOk result (into.new.items ≡ into.old.items ++ escaped bytes.now) }
+    ensures ok { OnOk result (into.new.items ≡ into.old.items ++ escaped bytes.now) }
+    ensures err { OnErr result (AppendsFront into.old.items into.new.items (escaped bytes.now)) }
 {
     let mut rest = bytes;
     while let [byte, after @ ..] = rest {
@@ -37,7 +41,8 @@ fn print_escaped(bytes: &[u8], into: &mut Vec<u8>) -> Result<(), OutOfMemory>
 }
 
 fn print_byte(byte: u8, into: &mut Vec<u8>) -> Result<(), OutOfMemory>
-    ensures { OnOk result (into.new.items ≡ into.old.items ++ escaped_byte byte) }
+    ensures ok { OnOk result (into.new.items ≡ into.old.items ++ escaped_byte byte) }
+    ensures err { OnErr result (AppendsFront into.old.items into.new.items (escaped_byte byte)) }
 {
     if byte == b'"' {
         into.extend_from_slice(b"\\\"")?;

@@ -2,7 +2,7 @@
 ghost use Rattle.std.specs.Prelude.{◌≡◌, ◌<◌, length, Some};
 ghost use Rattle.ms_tree.specs.Tree.{number};
 ghost use Rattle.ms_grammar.specs.Terms.{both};
-ghost use Rattle.ms_term.specs.Terms.{trees, term_at};
+ghost use Rattle.ms_term.specs.Terms.{term_at};
 ghost use Rattle.ms_copies.specs.Evaluating.{integer, value, allows, compares};
 
 use crate::integers::integer;
@@ -12,9 +12,9 @@ use std::cmp::Ordering;
 
 /// Whether a comparison holds of two terms.
 pub fn holds(terms: &Terms, cmp: Cmp, a: TermId, b: TermId) -> bool
-    requires a_within { a < length (trees terms.now) }
-    requires b_within { b < length (trees terms.now) }
-    ensures { result ≡ compares cmp (term_at (trees terms.now) a) (term_at (trees terms.now) b) }
+    requires a_within { a < length terms.now }
+    requires b_within { b < length terms.now }
+    ensures { result ≡ compares cmp (term_at terms.now a) (term_at terms.now b) }
 {
     allows(cmp, terms.compare(a, b))
 }

@@ -1,7 +1,6 @@
 // The values of terms, under their names in a table.
 ghost use Rattle.std.specs.Prelude.{IfOk, map};
 ghost use Rattle.ms_copies.specs.Evaluating.{value, all_values};
-ghost use Rattle.ms_term.specs.Terms.{trees};
 ghost use Rattle.ms_value.specs.Naming.{Gives, GivesAll};
 
 use crate::integers::integer;
@@ -18,7 +17,7 @@ pub fn evaluate(
     pattern: &Pattern,
     chosen: &[i64],
 ) -> Result<Option<TermId>, OutOfMemory>
-    ensures { IfOk result (Gives (trees terms.old) (trees terms.new) (value chosen.now pattern.now)) }
+    ensures { IfOk result (Gives terms.old terms.new (value chosen.now pattern.now)) }
 {
     match pattern {
         Pattern::Text(bytes) => Ok(Some(terms.text(bytes.as_slice())?)),
@@ -43,7 +42,7 @@ pub fn evaluate_all(
     patterns: &[Pattern],
     chosen: &[i64],
 ) -> Result<Option<Vec<TermId>>, OutOfMemory>
-    ensures { IfOk result (GivesAll (trees terms.old) (trees terms.new) (all_values (map (value chosen.now) patterns.now))) }
+    ensures { IfOk result (GivesAll terms.old terms.new (all_values (map (value chosen.now) patterns.now))) }
 {
     let mut names = Vec::with_capacity(alloc, patterns.len())?;
     for pattern in patterns {

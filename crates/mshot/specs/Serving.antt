@@ -8,19 +8,19 @@ use Rattle.ms_machine.specs.declared.reply.Reply.{Reply as kept_reply}
 use Rattle.ms_machine.specs.Machine.{State, start}
 use Rattle.ms_machine.specs.Replies.{Output, Reply, said_by, any_refused, replies_text}
 use Rattle.ms_machine.specs.Scripts.{Takes, Run}
-use Rattle.ms_session.specs.Kept.{Kept, IsNamed, state_of, table_of}
+use Rattle.ms_session.specs.Kept.{Kept, IsNamed, state_of}
 use Rattle.mshot.specs.Outcome.{WritesFront}
 
 -- the reply in the terms of the session
 abbrev pub reply_of : Kept → kept_reply → Reply
-reply_of session reply = said_by (table_of session) reply
+reply_of session reply = said_by session.table reply
 
 -- The script said the next item, and the session took its step. Or it says nothing more.
 abbrev pub Goes : Lines → Kept → Option kept_reply → Lines → Kept → Type 0
 Goes lines old (Some reply) rest new =
     (item : Item) × SaysAtEnd lines (Some item) rest
     × (log : List Note) × Takes (state_of old) item (record { reply = reply_of new reply; log = log }) (state_of new)
-    × IsNamed (length (table_of new)) reply × (length rest.rest < length lines.rest)
+    × IsNamed (length new.table) reply × (length rest.rest < length lines.rest)
 Goes lines old None rest new = SaysAtEnd lines None rest × (rest.rest ≡ []) × (new ≡ old)
 
 -- The script's items are these, and then what the rest has to say.

@@ -1,7 +1,7 @@
 ghost use Rattle.std.specs.Prelude.{◌≡◌, ℕ, ◌≤◌, ◌++◌, Bool, false, List, [], Some, IfOk, OnOk, OnErr, length};
 ghost use Rattle.ms_machine.specs.Replies.{is_refused, reply_text};
 ghost use Rattle.ms_io.specs.Faults.{Rose};
-ghost use Rattle.ms_session.specs.Kept.{IsNamed, state_of, table_of};
+ghost use Rattle.ms_session.specs.Kept.{IsNamed, state_of};
 ghost use Rattle.mshot.specs.Outcome.{IsAfterReading, Writes, WritesReplies};
 ghost use Rattle.mshot.specs.Serving.{Goes, HasAnswered, HasStopped, WritesFrontOf, reply_of};
 
@@ -46,7 +46,7 @@ fn put_reply<K: Sink>(
     reply: Reply,
     out: &mut K,
 ) -> Result<bool, Stop>
-    requires { IsNamed (length (table_of session.old)) reply }
+    requires { IsNamed (length session.old.table) reply }
     ensures counts { K.faults out.old ≤ K.faults out.new }
     ensures fault { result ≡ Err Stop.Fault → Rose (K.faults out.old) (K.faults out.new) }
     ensures refusal { IfOk result (λ refused. refused ≡ is_refused (reply_of session.old reply)) }

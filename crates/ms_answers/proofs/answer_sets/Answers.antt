@@ -1,5 +1,6 @@
-use Rattle.std.proofs.Common.{◌∙◌, subst, arith}
-use Rattle.ms_answers.specs.Meeting.{IsMeetingAnswer}
+use Rattle.std.proofs.Common.{◌∙◌, ap, subst, arith}
+use Rattle.ms_join.specs.Assumptions.{IsMeetingAnswer}
+use Rattle.ms_rules.specs.Room.{RuleRoom}
 use Rattle.ms_answers.specs.Subsets.{KeepsWhere}
 use Rattle.ms_answers.proofs.Listed.{IsStep, AreOver, IsListed-step, fewer_left, length_keeps, EndsAs-complete}
 use Rattle.ms_answers.proofs.answer_sets.Goals as goal
@@ -25,7 +26,8 @@ loop-candidate-preserved c =
       listed = IsListed-step n Is over c.loop-candidate.candidate c.in_ok-candidate.candidate set old new step invariant.listed keeps;
       over_base = c.in_ok-candidate.ensures.within;
       few = (let more = length_keeps (Is set) set old new keeps in omega arith);
-      room = c.keep_answer.ensures.room ∙ invariant.room;
+      room = ap (λ (r : RuleRoom). r.atoms) c.keep_answer.ensures.room ∙ invariant.room;
+      rules = omega (arith, ap (λ (r : RuleRoom). r.rules) c.keep_answer.ensures.room, invariant.rules);
     }
 
 pub returns-clause-ends : goal.returns-clause-ends

@@ -1,5 +1,4 @@
 use Rattle.std.proofs.Common.{◌∙◌, ◌++◌, ap, arith}
-use Rattle.ms_term.specs.Terms.{trees}
 use Rattle.ms_copies.specs.Grounding.{gives_head, gives_external}
 use Rattle.ms_ctxground.specs.NewAtoms.{IsNewOf, head_of}
 use Rattle.ms_ctxground.proofs.Additions.{all_new, all_different, heads_there}
@@ -14,14 +13,14 @@ new_names-requires-clause-outputs c = rw (c.as_slice.ensures.value, c.in_ok-outp
 pub new_names-requires-clause-externals : goal.new_names-requires-clause-externals
 new_names-requires-clause-externals c = rw (c.as_slice-2.ensures.value, c.in_ok-externals.ensures) (heads_below gives_external _ c.args.instances.now c.requires.named)
 
-are_new : (c : In_ok-names) → IsNewOf (trees c.args.terms.now) c.args.base.now (outputs_of c.args.instances.now) (externals_of c.args.instances.now) c.in_ok-names.names
+are_new : (c : In_ok-names) → IsNewOf c.args.terms.now c.args.base.now (outputs_of c.args.instances.now) (externals_of c.args.instances.now) c.in_ok-names.names
 are_new c = rw (← c.in_ok-outputs.ensures, ← c.in_ok-externals.ensures, ← c.as_slice.ensures.value, ← c.as_slice-2.ensures.value) c.in_ok-names.ensures
 
 pub add-requires-clause-new : goal.add-requires-clause-new
 add-requires-clause-new c = rw c.as_slice-3.ensures (all_new (are_new (goal.at.add-requires-clause-new c).In_ok-names))
 
 pub add-requires-clause-different : goal.add-requires-clause-different
-add-requires-clause-different c = rw c.as_slice-3.ensures (all_different (trees c.args.terms.now) c.in_ok-names.names (are_new (goal.at.add-requires-clause-different c).In_ok-names).rising)
+add-requires-clause-different c = rw c.as_slice-3.ensures (all_different c.args.terms.now c.in_ok-names.names (are_new (goal.at.add-requires-clause-different c).In_ok-names).rising)
 
 pub add-requires-clause-few : goal.add-requires-clause-few
 add-requires-clause-few c =
@@ -40,11 +39,11 @@ overflow_cast-result c =
 pub rule_set-requires : goal.rule_set-requires
 rule_set-requires c =
     let grown = c.in_ok-add.ensures.ok ∙ ap (λ ns. c.args.base.now ++ ns) c.as_slice-3.ensures in
-    rw grown (heads_there (trees c.args.terms.now) c.args.instances.now c.args.base.now c.in_ok-names.names c.requires.headed (are_new (goal.at.rule_set-requires c).In_ok-names))
+    rw grown (heads_there c.args.terms.now c.args.instances.now c.args.base.now c.in_ok-names.names c.requires.headed (are_new (goal.at.rule_set-requires c).In_ok-names))
 
 pub returns-clause-ok : goal.returns-clause-ok
 returns-clause-ok c =
-    let table = trees c.args.terms.now in
+    let table = c.args.terms.now in
     let instances = c.args.instances.now in
     let old = c.args.base.now in
     let grown = c.in_ok-add.ensures.ok ∙ ap (λ ns. c.args.base.now ++ ns) c.as_slice-3.ensures in

@@ -1,7 +1,7 @@
 use Rattle.std.proofs.Common.{◌∙◌, ap, arith, sym, subst}
 use Rattle.std.proofs.lemmas.Grind.{common_steps}
 use Rattle.ms_lits.specs.Assignment.{Assignment}
-use Rattle.ms_analyze.specs.Analysis.{AreReasoned}
+use Rattle.ms_refutation.specs.Sets.{AreReasoned}
 use Rattle.ms_analyze.proofs.Reasoned.{reasoned_none}
 use Rattle.ms_search_tests.proofs.analyze.first_conflict.Goals as goal
 

@@ -1,5 +1,5 @@
 use Rattle.std.proofs.Common.{◌≡◌}
-use Rattle.ms_analyze.specs.Analysis.{AreReasoned}
+use Rattle.ms_refutation.specs.Sets.{AreReasoned}
 use Rattle.ms_search_tests.proofs.analyze.first_conflict.Given as goal
 
 abbrev pub invariant-loop-lit : goal.invariant-loop-lit

@@ -1,6 +1,5 @@
 use Rattle.std.proofs.Common.{◌<◌, length, sym, subst, arith}
 use Rattle.std.proofs.lemmas.List.Elements.{All-get_or, all_zip_more}
-use Rattle.ms_term.specs.Terms.{trees}
 use Rattle.ms_join.specs.AnswerSets.{IsAtomSet}
 use Rattle.ms_machine.specs.Machine.{shows_atom}
 use Rattle.ms_show.specs.ShownLists.{IsShownOf}
@@ -14,5 +13,5 @@ shown_list-requires-clause-over_base c =
 
 pub loop-set-preserved : goal.loop-set-preserved
 loop-set-preserved c =
-    let R = IsShownOf (trees c.args.terms.now) (shows_atom c.args.parts.now) c.args.base.now in
+    let R = IsShownOf c.args.terms.now (shows_atom c.args.parts.now) c.args.base.now in
     rw c.in_ok-push.ensures.items (all_zip_more R c.args.sets.now c.loop-set.lists.items c.loop-set.set-index c.set-item.result c.in_ok-shown_list.field-0 (omega arith) c.set-item.is c.loop-set.invariant c.in_ok-shown_list.ensures)

@@ -1,5 +1,4 @@
 use Rattle.std.proofs.Common.{◌≡◌, ◌<◌, ◌∙◌, ℕ, Vec, Global, length, get_or, sym, ap, arith}
-use Rattle.ms_term.specs.Terms.{trees}
 use Rattle.ms_machine.specs.Machine.{shows_atom}
 use Rattle.ms_show.proofs.ShownLists.{shown_kept, shown_passed}
 use Rattle.ms_show.proofs.shown.shown_terms.Goals as goal
@@ -7,7 +6,7 @@ use Rattle.ms_show.proofs.shown.shown_terms.Goals.{then-is_shown+in_ok-push, els
 
 pub loop-atom-preserved : goal.loop-atom-preserved
 loop-atom-preserved c =
-    let table = trees c.args.terms.now in
+    let table = c.args.terms.now in
     let shows = shows_atom c.args.parts.now in
     let base = c.args.base.now in
     let set = c.args.set.now in

@@ -13,8 +13,8 @@ loop-place-preserved c =
       within = All-front (λ p. p < length c.args.trail.now.entries) _ _ (subst (All (λ p. p < length c.args.trail.now.entries)) splits c.loop-place.invariant.within);
     }
 
-pub returns : goal.returns
-returns c =
+pub returns-clause-read : goal.returns-clause-read
+returns-clause-read c =
     let all : c.into_iter-place-iterator.result.iter ≡ c.args.self.places.keys = ap (λ r. r.iter) c.into_iter-place-iterator.ensures.into_iter_gives ∙ c.rev-place-items.ensures.source ∙ c.iter.ensures.rest in
     record {
       lits =

@@ -1,15 +1,15 @@
 use Rattle.std.proofs.Common.{◌≡◌, ◌+◌, ◌≤◌, ℕ, length, get_or}
-use Rattle.ms_cone.specs.declared.uses.Use.{Use}
-use Rattle.ms_cone.specs.Chains.{IsUseFrom}
+use Rattle.ms_cone.specs.declared.links.Link.{Link}
+use Rattle.ms_cone.specs.Chains.{IsLinkedFrom}
 use Rattle.ms_cone.specs.Search.{Follows}
 use Rattle.ms_cone.proofs.search.Search.follow.Given as goal
 
-abbrev pub invariant-loop-link : goal.invariant-loop-link
-invariant-loop-link l = record {
-  within : l.link ≤ length l.dependencies;
-  found : (k : ℕ) (d : Use) → l.link ≡ k + 1 → (get_or l.dependencies k d).atom ≡ l.fn.atom;
-  follows : Follows l.initial.self l.self l.fn.atom (λ a. IsUseFrom l.dependencies l.link a l.fn.atom);
+abbrev pub invariant-loop-rest : goal.invariant-loop-rest
+invariant-loop-rest l = record {
+  within : l.rest ≤ length l.links;
+  found : (k : ℕ) (d : Link) → l.rest ≡ k + 1 → (get_or l.links k d).from ≡ l.fn.atom;
+  follows : Follows l.initial.self l.self l.fn.atom (IsLinkedFrom l.links l.rest l.fn.atom);
 }
 
-abbrev pub decreases-loop-link : goal.decreases-loop-link
-decreases-loop-link l = l.link
+abbrev pub decreases-loop-rest : goal.decreases-loop-rest
+decreases-loop-rest l = l.rest

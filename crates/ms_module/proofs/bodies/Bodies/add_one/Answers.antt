@@ -1,6 +1,6 @@
 use Rattle.std.proofs.Common.{subst, ◌∷◌, [], List, map}
 use Rattle.ms_module.specs.Bodies.{AddsBodies, shown}
-use Rattle.ms_join.specs.Composability.{Body}
+use Rattle.ms_join.specs.Things.{Body}
 use Rattle.ms_module.proofs.BodyLaws.{added_one}
 use Rattle.ms_module.proofs.bodies.Bodies.add_one.Goals as goal
 

@@ -6,5 +6,5 @@ pub returns-clause-ok : goal.returns-clause-ok
 returns-clause-ok c =
     let s = c.self.inside in
     rw (← c.self.view_is)
-    (texts_done s.sealed c.is_err-self-inside.result s.terms s.parts c.add_text-reply.new.parts s.base s.join (Add c.args.text.now) c.add_text-reply.result
-    c.if-self.false c.is_err-self-inside.ensures.value c.add_text-reply.ensures)
+    (texts_done s.sealed c.is_err-self-inside.result s.terms s.parts c.add_text-reply.new.parts s.base s.join s.notes (Add c.args.text.now) c.add_text-reply.result
+    c.if-self.false c.is_err-self-inside.ensures.value c.self.invariant.0 c.add_text-reply.ensures)

@@ -8,6 +8,6 @@ returns-clause-ok c =
     let n = c.ground_calls-reply.new in
     rw (← c.self.view_is)
     (done
-    (record { sealed = s.sealed; nodes = s.terms; texts = s.parts; base = s.base; join = s.join })
-    (record { sealed = c.is_err-self-inside.result; nodes = n.terms; texts = s.parts; base = n.base; join = n.join })
-    (Ground c.args.calls.now) c.ground_calls-reply.result c.if-self.false c.is_err-self-inside.ensures.value c.ground_calls-reply.ensures.step c.ground_calls-reply.ensures.named c.ground_calls-reply.ensures.keeps)
+    (record { sealed = s.sealed; table = s.terms; texts = s.parts; base = s.base; join = s.join; notes = s.notes })
+    (record { sealed = c.is_err-self-inside.result; table = n.terms; texts = s.parts; base = n.base; join = n.join; notes = s.notes })
+    (Ground c.args.calls.now) c.ground_calls-reply.result c.if-self.false c.is_err-self-inside.ensures.value c.self.invariant.0 c.ground_calls-reply.ensures.step c.ground_calls-reply.ensures.named c.ground_calls-reply.ensures.keeps)

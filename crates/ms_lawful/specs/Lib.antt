@@ -1,0 +1,4 @@
+pub mod Problems
+pub mod Lines
+pub mod Parts
+pub mod Laws

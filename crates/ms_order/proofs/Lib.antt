@@ -1,2 +1,0 @@
-pub mod TotalOrder
-pub mod TermSort
