@@ -21,12 +21,13 @@ use Rattle.ms_things.specs.Signs.{IsFor, IsNogoodOf, Signed, minus, plus, turned
 use Rattle.ms_loops.proofs.Founding.{head_of, if_at}
 use Rattle.ms_base.proofs.Lists.{Contains-behind, Contains-cases, Contains-first}
 use Rattle.ms_loops.proofs.Members.{any_at, member_at, place_of}
+use Rattle.ms_loops.proofs.Truths.{parts_made}
 use Rattle.ms_loops.proofs.Unfounded.{head_below}
 
 -- ---- numbers of old things
 
 -- things of a longer list under the numbers that they have
-get_front : {X : Type 0} (xs ys : List X) (k : ℕ) (x : X) → slice_get xs k ≡ Some x → slice_get (xs ++ ys) k ≡ Some x
+pub get_front : {X : Type 0} (xs ys : List X) (k : ℕ) (x : X) → slice_get xs k ≡ Some x → slice_get (xs ++ ys) k ≡ Some x
 get_front [] ys k x at = cc
 get_front (y ∷ xs) ys zero x at = at
 get_front (y ∷ xs) ys (suc k) x at = get_front xs ys k x at
@@ -83,17 +84,7 @@ module _ (j : Join) (things : List Thing) (are : AreThings j things) where
       member_at things part before.0 before.2
 
   parts_there : (b : Body) → Contains things (body b) → All (λ s. Contains things s.thing) (parts_of b)
-  parts_there b there =
-      All-append (λ s. Contains things s.thing) (map (λ a. plus (atom a)) b.pos ++ map (λ a. minus (atom a)) b.neg) (map (λ s. record { thing = aggregate s.agg; truth = not s.negated }) b.aggs)
-      (All-append (λ s. Contains things s.thing) (map (λ a. plus (atom a)) b.pos) (map (λ a. minus (atom a)) b.neg)
-      (All-map (λ s. Contains things s.thing) (λ a. plus (atom a)) b.pos
-      (λ k d within. part_there (body b) (atom (get_or b.pos k d)) there (inl (Contains-get_or b.pos k d within))))
-      (All-map (λ s. Contains things s.thing) (λ a. minus (atom a)) b.neg
-      (λ k d within. part_there (body b) (atom (get_or b.neg k d)) there (inr (Contains-get_or b.neg k d within)))))
-      (All-map (λ s. Contains things s.thing) (λ s. record { thing = aggregate s.agg; truth = not s.negated }) b.aggs
-      (λ k d within.
-      part_there (body b) (aggregate (get_or b.aggs k d).agg) there
-      (any_at (λ s. s.agg ≡ (get_or b.aggs k d).agg) b.aggs (get_or b.aggs k d) (Contains-get_or b.aggs k d within) refl)))
+  parts_there b there k d within = part_there (body b) (get_or (parts_of b) k d).thing there (parts_made b k d within)
 
   body_there : (rule : GroundRule) → Contains j.rules rule → Contains things (body (body_of rule))
   body_there rule among = (are.exactly (body (body_of rule))).1 (any_at (λ r. IsThingOf r (body (body_of rule))) j.rules rule among (inl refl))

@@ -7,4 +7,7 @@ mod Members
 mod Writing
 mod Extended
 mod Nogoods
+mod Truths
+mod Assigning
+mod Staying
 pub mod Growing

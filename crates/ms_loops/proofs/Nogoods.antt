@@ -31,7 +31,7 @@ use Rattle.ms_loops.proofs.Writing.{Holds, all_hold, written}
 both : (b : Bool) → b ≡ true → b ≡ false → ⊥
 both b is lacks = false≢true (sym lacks ∙ is)
 
-turned_differs : (b : Bool) → b ≡ not b → ⊥
+pub turned_differs : (b : Bool) → b ≡ not b → ⊥
 turned_differs true is = false≢true (sym is)
 turned_differs false is = false≢true is
 
