@@ -15,9 +15,9 @@ use Rattle.ms_lits.specs.declared.trail.Entry.{Entry}
 use Rattle.ms_lits.specs.Literals.{Nogood, IsRefuted}
 use Rattle.ms_lits.specs.Assignment.{Assignment, HoldsIn, IsAssignment, IsWholeIn, up_to, value_in}
 use Rattle.ms_nogood.specs.Store.{Store}
-use Rattle.ms_nogood.specs.Propagation.{nogoods_in}
+use Rattle.ms_nogood.specs.Propagation.{IsStored}
 use Rattle.ms_analyze.specs.declared.Learned.{Learned}
-use Rattle.ms_analyze.specs.Analysis.{HasTemporaryReason, IsAsserting, IsBelow, IsGreatestBelow, IsTemporaryAt, level_in, nogoods_not_temporary}
+use Rattle.ms_analyze.specs.Analysis.{HasTemporaryReason, IsAsserting, IsBelow, IsGreatestBelow, IsTemporaryAt, level_in, IsNotTemporary}
 use Rattle.ms_analyze.specs.Cuts.{IsReadOff, entry_at, last_level, level_at, level_or_0, lit_at, lits_at, no_entry}
 use Rattle.ms_analyze.proofs.Marked.{Contains-first, Contains-behind}
 use Rattle.ms_analyze.proofs.Resolved.{All-front, lits_has, refuted_more}
@@ -194,7 +194,7 @@ module _ (store : Store) (a : Assignment) (violated : ℕ) (places : List ℕ) (
     ];
   }
 
-  point_refuted : (nogoods : List Nogood) → IsRefuted nogoods (lits_at a.entries (places ++ last ∷ [])) → IsRefuted nogoods (lit_at a.entries last ∷ lits_at a.entries (reverse places))
+  point_refuted : (nogoods : Nogood → Type 0) → IsRefuted nogoods (lits_at a.entries (places ++ last ∷ [])) → IsRefuted nogoods (lit_at a.entries last ∷ lits_at a.entries (reverse places))
   point_refuted nogoods refuted =
       let Among : ℕ → Type 0 = λ (p : ℕ). Contains (lit_at a.entries last ∷ lits_at a.entries (reverse places)) (lit_at a.entries p) in
       refuted_more nogoods (lits_at a.entries (places ++ last ∷ [])) (lit_at a.entries last ∷ lits_at a.entries (reverse places)) refuted
@@ -221,11 +221,11 @@ module _ (store : Store) (a : Assignment) (violated : ℕ) (places : List ℕ) (
     pub learned_back : IsGreatestBelow a learned.lits learned.back
     learned_back = subst (λ (ls : List Lit). IsGreatestBelow a ls learned.back) (sym r.lits) (subst (IsGreatestBelow a (lit_at a.entries last ∷ lits_at a.entries (reverse places))) (sym r.back) point_back)
 
-    pub learned_refuted : IsRefuted (nogoods_in store) learned.lits
-    learned_refuted = subst (IsRefuted (nogoods_in store)) (sym r.lits) (point_refuted (nogoods_in store) s.stage.cut.refuted)
+    pub learned_refuted : IsRefuted (IsStored store) learned.lits
+    learned_refuted = subst (IsRefuted (IsStored store)) (sym r.lits) (point_refuted (IsStored store) s.stage.cut.refuted)
 
-    pub learned_lasts : learned.temporary ≡ false → IsRefuted (nogoods_not_temporary store) learned.lits
-    learned_lasts lasts = subst (IsRefuted (nogoods_not_temporary store)) (sym r.lits) (point_refuted (nogoods_not_temporary store) (s.stage.cut.lasting (sym r.temporary ∙ lasts)))
+    pub learned_lasts : learned.temporary ≡ false → IsRefuted (IsNotTemporary store) learned.lits
+    learned_lasts lasts = subst (IsRefuted (IsNotTemporary store)) (sym r.lits) (point_refuted (IsNotTemporary store) (s.stage.cut.lasting (sym r.temporary ∙ lasts)))
 
     pub learned_temporary : IsTrue learned.temporary → IsTemporaryAt store violated ⊎ HasTemporaryReason store a.entries
     learned_temporary is = s.stage.origin (subst (λ (b : Bool). IsTrue b) r.temporary is)

@@ -1,8 +1,9 @@
 -- The stages of an analysis: a cut whose last place is of the present level.
-use Rattle.std.proofs.Common.{ℕ, ◌≡◌, ◌<◌, ◌⊎◌, inl, inr, List, [], ◌∷◌, ◌++◌, Option, Some, Bool, true, false, length, get_or, take, option_map, refl, sym, ◌∙◌, ap, subst, arith, All, ◌||◌}
+use Rattle.std.proofs.Common.{ℕ, ◌≡◌, ◌<◌, ◌≤◌, ◌⊎◌, inl, inr, List, [], ◌∷◌, ◌++◌, Option, Some, Bool, true, false, length, get_or, take, option_map, refl, sym, ◌∙◌, ap, subst, arith, All, ◌||◌}
 use Rattle.std.specs.Prelude.{Contains, IsTrue, IsSome}
 use Rattle.std.specs.Ordering.{nat_cmp}
 use Rattle.std.specs.List.Sorted.{IsStrictlySortedBy}
+use Rattle.std.proofs.lemmas.Bool.{cases_lt}
 use Rattle.std.proofs.lemmas.List.Elements.{All-contains, Contains-get_or, Contains-push_cases}
 use Rattle.ms_lits.specs.declared.lit.Lit.{Lit}
 use Rattle.ms_lits.specs.declared.trail.Entry.{Entry}
@@ -10,7 +11,7 @@ use Rattle.ms_lits.specs.Literals.{Nogood, opposite_of}
 use Rattle.ms_lits.specs.Assignment.{Assignment, HoldsIn, IsAssignment, IsUnitIn, IsWholeIn, entry_of, place_in}
 use Rattle.ms_nogood.specs.Store.{Store, Stored, nogood_at}
 use Rattle.ms_nogood.specs.Propagation.{IsWholeAt}
-use Rattle.ms_analyze.specs.Analysis.{AreReasoned, HasLevel, HasTemporaryReason, IsTemporaryAt, is_temporary}
+use Rattle.ms_analyze.specs.Analysis.{AreFixed, AreReasoned, HasLevel, HasTemporaryReason, IsTemporaryAt, is_temporary}
 use Rattle.ms_analyze.specs.Cuts.{HasPlace, IsAssignedAt, IsCut, entry_at, level_at, lit_at, marked, no_entry}
 use Rattle.ms_analyze.proofs.Marked.{marked_all, marked_has, marked_keeps}
 use Rattle.ms_analyze.proofs.Resolved.{All-last, cut_start, cut_step}
@@ -86,23 +87,27 @@ some_level : (e : Entry) (level : ℕ) → Some e.level ≡ Some level → e.lev
 some_level e level is = cc
 
 -- a literal of a level is marked
-pub start_place : (a : Assignment) (nogood : Nogood) (all : List ℕ) → IsWholeIn a.entries nogood → HasLevel a.entries nogood a.level → all ≡ marked a.entries (length a.entries) [] nogood → HasPlace a.entries all a.level
-start_place a nogood all whole has is =
+pub start_place : (store : Store) (a : Assignment) (fixed : ℕ) → AreFixed store a.entries fixed → 1 ≤ a.level → (nogood : Nogood) (all : List ℕ) → IsWholeIn a.entries nogood → HasLevel a.entries nogood a.level → all ≡ marked a.entries fixed (length a.entries) [] nogood → HasPlace a.entries all a.level
+start_place store a fixed f one nogood all whole has is =
     let e = holds_entry a.entries has.lit (All-contains (HoldsIn a.entries) nogood has.lit whole has.among) in
     let p = placed a.entries has.lit.var e.entry e.found in
     let level : e.entry.level ≡ a.level = some_level e.entry a.level (sym (ap (option_map (λ (x : Entry). x.level)) e.found) ∙ has.of_level) in
     let at : level_at a.entries (place_in a.entries has.lit.var) ≡ a.level = ap (λ (x : Entry). x.level) (p.same no_entry) ∙ level in
+    let from : fixed ≤ place_in a.entries has.lit.var = elim (cases_lt (place_in a.entries has.lit.var) fixed) [
+      | inl early ↦ (let zero_level = f.at_zero (place_in a.entries has.lit.var) no_entry early p.within in absurd (omega (arith, at, one, zero_level)))
+      | inr late ↦ late
+    ] in
     record {
       place = place_in a.entries has.lit.var;
-      among = subst (λ (ps : List ℕ). Contains ps (place_in a.entries has.lit.var)) (sym is) (marked_has a.entries (length a.entries) [] nogood has.lit has.among p.within);
+      among = subst (λ (ps : List ℕ). Contains ps (place_in a.entries has.lit.var)) (sym is) (marked_has a.entries fixed (length a.entries) [] nogood has.lit has.among from p.within);
       reached = omega (arith, at);
     }
 
 -- and stays so
-pub step_place : (a : Assignment) (places all : List ℕ) (last : ℕ) (nogood : Nogood) → HasPlace a.entries places a.level → all ≡ marked a.entries last places nogood → HasPlace a.entries all a.level
-step_place a places all last nogood has is = record {
+pub step_place : (a : Assignment) (fixed : ℕ) (places all : List ℕ) (last : ℕ) (nogood : Nogood) → HasPlace a.entries places a.level → all ≡ marked a.entries fixed last places nogood → HasPlace a.entries all a.level
+step_place a fixed places all last nogood has is = record {
   place = has.place;
-  among = subst (λ (ps : List ℕ). Contains ps has.place) (sym is) (marked_keeps a.entries last places nogood has.place has.among);
+  among = subst (λ (ps : List ℕ). Contains ps has.place) (sym is) (marked_keeps a.entries fixed last places nogood has.place has.among);
   reached = has.reached;
 }
 
@@ -126,35 +131,35 @@ true_either true b is = inl refl
 true_either false b is = inr is
 
 -- what is marked at the start
-pub start_marked : (entries : List Entry) (lits : Nogood) (all old : List ℕ) (below : ℕ) → all ≡ marked entries below old lits → below ≡ length entries → old ≡ [] → all ≡ marked entries (length entries) [] lits
-start_marked entries lits all old below is end empty =
-    is ∙ ap (λ (n : ℕ). marked entries n old lits) end ∙ ap (λ (ps : List ℕ). marked entries (length entries) ps lits) empty
+pub start_marked : (entries : List Entry) (fixed : ℕ) (lits : Nogood) (all old : List ℕ) (below : ℕ) → all ≡ marked entries fixed below old lits → below ≡ length entries → old ≡ [] → all ≡ marked entries fixed (length entries) [] lits
+start_marked entries fixed lits all old below is end empty =
+    is ∙ ap (λ (n : ℕ). marked entries fixed n old lits) end ∙ ap (λ (ps : List ℕ). marked entries fixed (length entries) ps lits) empty
 
 -- the first stage
-pub stage_start : (store : Store) (a : Assignment) (violated : ℕ) (all places : List ℕ) (last : ℕ) (temporary : Bool) → IsAssignment a → (whole : IsWholeAt store a.entries violated) → HasLevel a.entries whole.stored.lits a.level → all ≡ marked a.entries (length a.entries) [] whole.stored.lits → temporary ≡ (false || is_temporary (nogood_at store violated)) → all ≡ places ++ last ∷ [] → All (λ (p : ℕ). p < last) places → IsStrictlySortedBy nat_cmp places → IsStage store a violated places last temporary
-stage_start store a violated all places last temporary t whole has is label splits below ordered =
-    let cut = cut_start store a.entries violated whole.stored (places ++ last ∷ []) temporary whole.found whole.whole (sym splits ∙ is) label in
+pub stage_start : (store : Store) (a : Assignment) (fixed : ℕ) → AreFixed store a.entries fixed → 1 ≤ a.level → (violated : ℕ) (all places : List ℕ) (last : ℕ) (temporary : Bool) → IsAssignment a → (whole : IsWholeAt store a.entries violated) → HasLevel a.entries whole.stored.lits a.level → all ≡ marked a.entries fixed (length a.entries) [] whole.stored.lits → temporary ≡ (false || is_temporary (nogood_at store violated)) → all ≡ places ++ last ∷ [] → All (λ (p : ℕ). p < last) places → IsStrictlySortedBy nat_cmp places → IsStage store a violated places last temporary
+stage_start store a fixed f one violated all places last temporary t whole has is label splits below ordered =
+    let cut = cut_start store a.entries fixed f violated whole.stored (places ++ last ∷ []) temporary whole.found whole.whole (sym splits ∙ is) label in
     let within = All-last (λ (p : ℕ). p < length a.entries) places last cut.within in
     record {
       cut = cut;
       below = below;
       ordered = ordered;
       within = within;
-      present = last_present a places last t within below (start_place a whole.stored.lits (places ++ last ∷ []) whole.whole has (sym splits ∙ is));
+      present = last_present a places last t within below (start_place store a fixed f one whole.stored.lits (places ++ last ∷ []) whole.whole has (sym splits ∙ is));
       origin = λ holds. inl (subst (λ (b : Bool). IsTrue b) label holds);
     }
 
 -- the next stage
-pub stage_step : (store : Store) (a : Assignment) (violated : ℕ) (old all places : List ℕ) (old_last last key : ℕ) (old_temporary temporary : Bool) → IsAssignment a → IsStage store a violated old old_last old_temporary → (r : IsReason store a.entries old_last key) → (entry_at a.entries old_last).reason ≡ Some key → HasPlace a.entries old a.level → all ≡ marked a.entries old_last old r.stored.lits → temporary ≡ (old_temporary || is_temporary (nogood_at store key)) → all ≡ places ++ last ∷ [] → All (λ (p : ℕ). p < last) places → IsStrictlySortedBy nat_cmp places → IsStage store a violated places last temporary
-stage_step store a violated old all places old_last last key old_temporary temporary t stage r reason has is label splits below ordered =
-    let cut = cut_step store a.entries old (places ++ last ∷ []) old_last key r.stored old_temporary temporary stage.cut r.found r.unit (sym splits ∙ is) label in
+pub stage_step : (store : Store) (a : Assignment) (fixed : ℕ) → AreFixed store a.entries fixed → (violated : ℕ) (old all places : List ℕ) (old_last last key : ℕ) (old_temporary temporary : Bool) → IsAssignment a → IsStage store a violated old old_last old_temporary → (r : IsReason store a.entries old_last key) → (entry_at a.entries old_last).reason ≡ Some key → HasPlace a.entries old a.level → all ≡ marked a.entries fixed old_last old r.stored.lits → temporary ≡ (old_temporary || is_temporary (nogood_at store key)) → all ≡ places ++ last ∷ [] → All (λ (p : ℕ). p < last) places → IsStrictlySortedBy nat_cmp places → IsStage store a violated places last temporary
+stage_step store a fixed f violated old all places old_last last key old_temporary temporary t stage r reason has is label splits below ordered =
+    let cut = cut_step store a.entries fixed f old (places ++ last ∷ []) old_last key r.stored old_temporary temporary stage.cut r.found r.unit (sym splits ∙ is) label in
     let within = All-last (λ (p : ℕ). p < length a.entries) places last cut.within in
     record {
       cut = cut;
       below = below;
       ordered = ordered;
       within = within;
-      present = last_present a places last t within below (step_place a old (places ++ last ∷ []) old_last r.stored.lits has (sym splits ∙ is));
+      present = last_present a places last t within below (step_place a fixed old (places ++ last ∷ []) old_last r.stored.lits has (sym splits ∙ is));
       origin = λ holds. elim (true_either old_temporary (is_temporary (nogood_at store key)) (subst (λ (b : Bool). IsTrue b) label holds)) [
         | inl before ↦ stage.origin before
         | inr now ↦ inr (record { entry = entry_at a.entries old_last; among = Contains-get_or a.entries old_last no_entry stage.within; key = key; reason = reason; temporary = now })
@@ -162,7 +167,7 @@ stage_step store a violated old all places old_last last key old_temporary tempo
     }
 
 -- the last place falls
-pub last_falls : (store : Store) (a : Assignment) (violated : ℕ) (old all places : List ℕ) (old_last last : ℕ) (old_temporary : Bool) (nogood : Nogood) → IsStage store a violated old old_last old_temporary → all ≡ marked a.entries old_last old nogood → all ≡ places ++ last ∷ [] → last < old_last
-last_falls store a violated old all places old_last last old_temporary nogood stage is splits =
+pub last_falls : (store : Store) (a : Assignment) (fixed violated : ℕ) (old all places : List ℕ) (old_last last : ℕ) (old_temporary : Bool) (nogood : Nogood) → IsStage store a violated old old_last old_temporary → all ≡ marked a.entries fixed old_last old nogood → all ≡ places ++ last ∷ [] → last < old_last
+last_falls store a fixed violated old all places old_last last old_temporary nogood stage is splits =
     All-last (λ (p : ℕ). p < old_last) places last
-    (subst (All (λ (p : ℕ). p < old_last)) (sym is ∙ splits) (marked_all (λ (p : ℕ). p < old_last) a.entries old_last old nogood stage.below (λ p lt. lt)))
+    (subst (All (λ (p : ℕ). p < old_last)) (sym is ∙ splits) (marked_all (λ (p : ℕ). p < old_last) a.entries fixed old_last old nogood stage.below (λ p lt. lt)))

@@ -1,13 +1,13 @@
 -- What conflict analysis needs of a trail and a store, and what it says of the nogood that it learns.
 -- Source: Gebser, Kaufmann and Schaub, "Conflict-driven answer set solving: from theory to practice" (2012).
-use Rattle.std.specs.Prelude.{ℕ, ◌≡◌, ◌<◌, ◌≤◌, ◌⊎◌, ◌∷◌, Bool, true, false, cond, List, Option, Some, None, option_map, take, length, All, Contains, IsTrue}
-use Rattle.std.specs.List.{filter_map, slice_index_or}
+use Rattle.std.specs.Prelude.{ℕ, ◌≡◌, ◌<◌, ◌≤◌, ◌⊎◌, [], ◌∷◌, Bool, true, false, List, Option, Some, None, option_map, take, length, All, Contains, IsTrue}
+use Rattle.std.specs.List.{slice_index_or}
 use Rattle.ms_lits.specs.declared.lit.Lit.{Lit}
 use Rattle.ms_lits.specs.declared.trail.Entry.{Entry}
-use Rattle.ms_lits.specs.Literals.{Nogood}
+use Rattle.ms_lits.specs.Literals.{IsDerived, Nogood}
 use Rattle.ms_lits.specs.Assignment.{Assignment, IsUnitIn, entry_of, up_to}
 use Rattle.ms_nogood.specs.Store.{Store, Stored, nogood_at}
-use Rattle.ms_nogood.specs.Propagation.{IsForced, literals_of}
+use Rattle.ms_nogood.specs.Propagation.{IsForced}
 use Rattle.ms_nogood.specs.declared.kind.Kind.{Kind}
 use Rattle.ms_nogood.specs.declared.kind.Kind.TheVariants.{Base, Kept, Temporary, Reason}
 
@@ -46,13 +46,13 @@ abbrev pub is_temporary : Option Stored → Bool
 is_temporary None = false
 is_temporary (Some s) = is_temporary_kind s.kind
 
--- the literals of what is awake and not temporary
-abbrev pub lasting_literals_of : Option Stored → Option Nogood
-lasting_literals_of slot = cond (is_temporary slot) None (literals_of slot)
-
--- the nogoods of the store but the temporary ones, by rising keys
-abbrev pub nogoods_not_temporary : Store → List Nogood
-nogoods_not_temporary store = filter_map lasting_literals_of store.slots
+-- The nogood is in the store under a key that isn't temporary.
+pub record IsNotTemporary (store : Store) (nogood : Nogood) : Type 0 where
+  pub key : ℕ
+  pub stored : Stored
+  pub found : nogood_at store key ≡ Some stored
+  pub same : stored.lits ≡ nogood
+  pub lasting : is_temporary_kind stored.kind ≡ false
 
 -- The nogood of this key is temporary.
 abbrev pub IsTemporaryAt : Store → ℕ → Type 0
@@ -65,6 +65,11 @@ pub record HasTemporaryReason (store : Store) (entries : List Entry) : Type 0 wh
   pub key : ℕ
   pub reason : entry.reason ≡ Some key
   pub temporary : IsTemporaryAt store key
+
+-- The first so many entries are of level 0, and follow from the nogoods that aren't temporary.
+pub record AreFixed (store : Store) (entries : List Entry) (fixed : ℕ) : Type 0 where
+  pub at_zero : (i : ℕ) (d : Entry) → i < fixed → i < length entries → (slice_index_or entries i d).level ≡ 0
+  pub derived : (i : ℕ) (d : Entry) → i < fixed → i < length entries → IsDerived (IsNotTemporary store) [] (slice_index_or entries i d).lit
 
 -- The nogood's first literal is its only one of the present level. After a jump back to the other level it
 -- alone is left, and the nogood is unit.

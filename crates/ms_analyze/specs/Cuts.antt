@@ -1,5 +1,5 @@
 -- A nogood that is whole on a trail, as the places of its literals.
-use Rattle.std.specs.Prelude.{ℕ, ◌≡◌, ◌<◌, ◌≤◌, ◌-◌, ◌∷◌, [], Bool, false, nat_lt, cond, List, Option, Some, None, map, reverse, length, slice_get, All, Contains, IsSome}
+use Rattle.std.specs.Prelude.{ℕ, ◌≡◌, ◌<◌, ◌≤◌, ◌-◌, ◌∷◌, [], Bool, false, nat_le, nat_lt, ◌&&◌, cond, List, Option, Some, None, map, reverse, length, slice_get, All, Contains, IsSome}
 use Rattle.std.specs.List.{slice_index_or}
 use Rattle.std.specs.Ordering.{nat_cmp}
 use Rattle.std.specs.BTreeSet.{insert_key}
@@ -8,9 +8,9 @@ use Rattle.ms_lits.specs.declared.trail.Entry.{Entry}
 use Rattle.ms_lits.specs.Literals.{Nogood, IsRefuted}
 use Rattle.ms_lits.specs.Assignment.{Assignment, entry_of, place_in}
 use Rattle.ms_nogood.specs.Store.{Store, Stored, nogood_at}
-use Rattle.ms_nogood.specs.Propagation.{nogoods_in}
+use Rattle.ms_nogood.specs.Propagation.{IsStored}
 use Rattle.ms_analyze.specs.declared.Learned.{Learned}
-use Rattle.ms_analyze.specs.Analysis.{nogoods_not_temporary}
+use Rattle.ms_analyze.specs.Analysis.{IsNotTemporary}
 
 abbrev pub no_entry : Entry
 no_entry = record { lit = record { var = 0; truth = false }; level = 0; reason = None }
@@ -30,14 +30,18 @@ lit_at entries place = (entry_at entries place).lit
 abbrev pub lits_at : List Entry → List ℕ → Nogood
 lits_at entries places = map (lit_at entries) places
 
--- the places with that of one literal more, where it is below a bound
-abbrev pub marked_one : List Entry → ℕ → List ℕ → Lit → List ℕ
-marked_one entries below places lit = cond (nat_lt (place_in entries lit.var) below) (insert_key nat_cmp places (place_in entries lit.var)) places
+-- whether a place is from one bound on and below another
+abbrev pub is_between : ℕ → ℕ → ℕ → Bool
+is_between fixed below place = nat_le fixed place && nat_lt place below
+
+-- the places with that of one literal more, where it is between the bounds
+abbrev pub marked_one : List Entry → ℕ → ℕ → List ℕ → Lit → List ℕ
+marked_one entries fixed below places lit = cond (is_between fixed below (place_in entries lit.var)) (insert_key nat_cmp places (place_in entries lit.var)) places
 
 -- the places with those of more literals
-abbrev pub marked : List Entry → ℕ → List ℕ → Nogood → List ℕ
-marked entries below places [] = places
-marked entries below places (lit ∷ lits) = marked entries below (marked_one entries below places lit) lits
+abbrev pub marked : List Entry → ℕ → ℕ → List ℕ → Nogood → List ℕ
+marked entries fixed below places [] = places
+marked entries fixed below places (lit ∷ lits) = marked entries fixed below (marked_one entries fixed below places lit) lits
 
 -- The nogood of this key has literals whose variables are assigned.
 pub record IsAssignedAt (store : Store) (a : Assignment) (key : ℕ) : Type 0 where
@@ -49,8 +53,8 @@ pub record IsAssignedAt (store : Store) (a : Assignment) (key : ℕ) : Type 0 wh
 -- The places are on the trail, and their literals are refuted.
 pub record IsCut (store : Store) (entries : List Entry) (places : List ℕ) (temporary : Bool) : Type 0 where
   pub within : All (λ place. place < length entries) places
-  pub refuted : IsRefuted (nogoods_in store) (lits_at entries places)
-  pub lasting : temporary ≡ false → IsRefuted (nogoods_not_temporary store) (lits_at entries places)
+  pub refuted : IsRefuted (IsStored store) (lits_at entries places)
+  pub lasting : temporary ≡ false → IsRefuted (IsNotTemporary store) (lits_at entries places)
 
 -- One of the places has at least this level.
 pub record HasPlace (entries : List Entry) (places : List ℕ) (level : ℕ) : Type 0 where

@@ -1,5 +1,5 @@
 -- The stored trail, as contracts see it.
-use Rattle.std.proofs.Common.{ℕ, ◌≡◌, ◌<◌, List, [], ◌∷◌, ◌++◌, Some, None, length, get_or, set, sym, ◌∙◌, ap, subst, arith}
+use Rattle.std.proofs.Common.{ℕ, ◌≡◌, ◌<◌, List, [], ◌∷◌, ◌++◌, Option, Some, None, length, get_or, set, option_map, refl, sym, ◌∙◌, ap, subst, arith}
 use Rattle.std.specs.Prelude.{IsSome}
 use Rattle.std.proofs.lemmas.List.{get_or_default}
 use Rattle.ms_lits.specs.declared.trail.Entry.{Entry}
@@ -54,6 +54,17 @@ pub room_seen : (a : Assignment) (room : ℕ) (entries : List Entry) (places : L
 room_seen a room entries places marks ends var view s below absent =
     let same : room ≡ a.room = ap (λ (x : Assignment). x.room) view in
     room_left room entries places marks var s (omega arith) (ap (λ (x : Assignment). entry_of x.entries var) view ∙ absent)
+
+pub unassigned_entry : (found : Option Entry) → option_map (λ (e : Entry). e.lit.truth) found ≡ None → found ≡ None
+unassigned_entry None is = refl
+unassigned_entry (Some e) is = cc
+
+-- while a variable is unassigned, there are fewer entries than variables
+pub fewer_seen : (a : Assignment) (room : ℕ) (entries : List Entry) (places : List ℕ) (marks : List Mark) (ends : List ℕ) (var : ℕ) → assignment_in entries ends room ≡ a → AreStored room entries places marks → var < a.room → value_in a.entries var ≡ None → length entries < a.room
+fewer_seen a room entries places marks ends var view s below absent =
+    let same : room ≡ a.room = ap (λ (x : Assignment). x.room) view in
+    let less = room_seen a room entries places marks ends var view s below (unassigned_entry (entry_of a.entries var) absent) in
+    omega (arith, less, same)
 
 pub more_seen : (a : Assignment) (room : ℕ) (entries : List Entry) (places : List ℕ) (marks : List Mark) (ends : List ℕ) (e : Entry) (mark : Mark) (place : ℕ) (pushed : List Entry) → assignment_in entries ends room ≡ a → AreStored room entries places marks → e.lit.var < a.room → entry_of a.entries e.lit.var ≡ None → mark ≡ mark_for e.lit.truth → place ≡ length entries → pushed ≡ entries ++ e ∷ [] → AreStored room pushed (set places e.lit.var place) (set marks e.lit.var mark)
 more_seen a room entries places marks ends e mark place pushed view s below absent is at pushes =

@@ -24,18 +24,19 @@ pub record Forces (set : Lit → Bool) (nogood : Nogood) (lit : Lit) : Type 0 wh
   pub contained : Contains nogood lit
   pub others : All (λ other. (other ≡ lit) ⊎ IsTrue (set other)) nogood
 
--- The set holds each literal that a nogood forces from it.
-abbrev pub IsClosed : List Nogood → (Lit → Bool) → Type 0
-IsClosed nogoods set = All (λ nogood. (lit : Lit) → Forces set nogood lit → IsTrue (set (opposite_of lit))) nogoods
+-- The set holds each literal that one of the nogoods forces from it. Here and below nogoods are given by what holds of
+-- each of them.
+abbrev pub IsClosed : (Nogood → Type 0) → (Lit → Bool) → Type 0
+IsClosed Among set = (nogood : Nogood) → Among nogood → (lit : Lit) → Forces set nogood lit → IsTrue (set (opposite_of lit))
 
 -- A literal is in the unit closure: it is in every closed set that holds the start.
-abbrev pub IsDerived : List Nogood → List Lit → Lit → Type 0
-IsDerived nogoods start lit = (set : Lit → Bool) → IsWhole set start → IsClosed nogoods set → IsTrue (set lit)
+abbrev pub IsDerived : (Nogood → Type 0) → List Lit → Lit → Type 0
+IsDerived Among start lit = (set : Lit → Bool) → IsWhole set start → IsClosed Among set → IsTrue (set lit)
 
 -- A whole nogood of a set.
-pub record HasWhole (nogoods : List Nogood) (set : Lit → Bool) : Type 0 where
+pub record HasWhole (Among : Nogood → Type 0) (set : Lit → Bool) : Type 0 where
   pub nogood : Nogood
-  pub among : Contains nogoods nogood
+  pub among : Among nogood
   pub whole : IsWhole set nogood
 
 -- Both signs of one thing in a set.
@@ -46,17 +47,17 @@ pub record HasBothSigns (set : Lit → Bool) : Type 0 where
 
 -- The start is refuted with the nogoods: every closed set that holds it has a whole nogood or both signs of
 -- a thing.
-abbrev pub IsRefuted : List Nogood → List Lit → Type 0
-IsRefuted nogoods start = (set : Lit → Bool) → IsWhole set start → IsClosed nogoods set → HasWhole nogoods set ⊎ HasBothSigns set
+abbrev pub IsRefuted : (Nogood → Type 0) → List Lit → Type 0
+IsRefuted Among start = (set : Lit → Bool) → IsWhole set start → IsClosed Among set → HasWhole Among set ⊎ HasBothSigns set
 
 -- A nogood brings something new at one of its literals: a closed set holds its other literals, has no whole
 -- nogood and no two signs of a thing, and lacks the opposite of that literal.
-pub record IsNew (nogoods : List Nogood) (nogood : Nogood) : Type 0 where
+pub record IsNew (Among : Nogood → Type 0) (nogood : Nogood) : Type 0 where
   pub lit : Lit
   pub contained : Contains nogood lit
   pub set : Lit → Bool
   pub others : All (λ other. (other ≡ lit) ⊎ IsTrue (set other)) nogood
-  pub closed : IsClosed nogoods set
-  pub none_whole : ¬ HasWhole nogoods set
+  pub closed : IsClosed Among set
+  pub none_whole : ¬ HasWhole Among set
   pub one_sign : ¬ HasBothSigns set
   pub lacks : set (opposite_of lit) ≡ false

@@ -1,5 +1,5 @@
 // A set of entries with the place of each variable, so that no call but `grow` takes memory.
-ghost use Rattle.std.specs.Prelude.{◌≡◌, ◌<◌, ◌≤◌, ◌∷◌, ◌++◌, [], length, max, option_map, slice_get, Some, None, OnOk, OnErr, IsSome, take, ◌+◌};
+ghost use Rattle.std.specs.Prelude.{◌≡◌, ◌<◌, ◌≤◌, ◌∷◌, ◌++◌, [], length, max, option_map, slice_get, Some, None, OnOk, OnErr, IsSome, take, ◌+◌, ℕ};
 ghost use Rattle.ms_lits.specs.Assignment.{IsAssignment, entry_of, place_in, value_in, up_to, entry_made};
 ghost use Rattle.ms_lits.specs.Storage.{mark_for, truth_of};
 
@@ -218,6 +218,8 @@ impl Trail {
     pub fn len(&self) -> usize
         ensures len { result ≡ length self.now.entries }
         ensures assignment { IsAssignment self.now }
+        // While a variable is unassigned, there are fewer literals than variables.
+        ensures fewer { (var : ℕ) → var < self.now.room → value_in self.now.entries var ≡ None → result < self.now.room }
     {
         self.entries.len()
     }

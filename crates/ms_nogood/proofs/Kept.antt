@@ -1,8 +1,8 @@
 -- The order of the kept keys, and what trimming leaves.
-use Rattle.std.proofs.Common.{ℕ, ◌≡◌, ◌<◌, ◌+◌, ◌≤◌, ◌-◌, inl, inr, List, Option, None, true, length, get_or, take, drop, sym, ◌∙◌, ap, subst, arith}
+use Rattle.std.proofs.Common.{ℕ, ◌≡◌, ◌<◌, ◌+◌, ◌≤◌, ◌-◌, ◌⊎◌, inl, inr, zero, suc, List, Option, None, true, length, get_or, take, drop, sym, ◌∙◌, ap, subst, arith}
 use Rattle.std.proofs.lemmas.Bool.{cases_eq, cases_lt, both_ways}
 use Rattle.std.proofs.lemmas.List.{length-drop, get_or-drop, get_or-take, get_or_default, length-take-le}
-use Rattle.ms_nogood.specs.Store.{Stored, Store, IsStore, holds_kept, Trims}
+use Rattle.ms_nogood.specs.Store.{Stored, Store, IsStore, ends, holds_kept, Trims}
 
 -- The nogoods of the first kept keys are dropped, and all else is as it was.
 pub record Dropped (kept : List ℕ) (old new : List (Option Stored)) (count : ℕ) : Type 0 where
@@ -33,8 +33,29 @@ dropped_more kept old mid new i key d within read changed rest =
           ∙ d.others other (λ k lt here. absent k (omega arith) here);
     }
 
-pub trimmed_store : (old new : List (Option Stored)) (kept left : List ℕ) (count capacity room : ℕ) → IsStore old kept capacity → room ≡ capacity → count ≤ length kept → left ≡ drop count kept → Dropped kept old new count → IsStore new left room
-trimmed_store old new kept left count capacity room s same below lefts d =
+-- a key is one of the first ones, or none of them
+found_or_absent : (kept : List ℕ) (key count : ℕ) → ((k : ℕ) × (k < count) × (get_or kept k 0 ≡ key)) ⊎ ((k : ℕ) → k < count → get_or kept k 0 ≡ key → ⊥)
+found_or_absent kept key zero = inr (λ k lt. absurd (omega arith))
+found_or_absent kept key (suc n) = elim (found_or_absent kept key n) [
+  | inl at ↦ inl (at.0, (let lt = at.1 in omega (arith, lt)), at.2)
+  | inr absent ↦ elim (cases_eq (get_or kept n 0) key) [
+    | inl here ↦ inl (n, omega arith, here)
+    | inr other ↦ inr (λ k lt same. elim (cases_lt k n) [
+      | inl before ↦ absent k before same
+      | inr late ↦ (let at : k ≡ n = omega arith in other (ap (λ x. get_or kept x 0) (sym at) ∙ same))
+    ])
+  ]
+]
+
+-- each key is dropped or stays as it is
+pub dropped_or_same : (kept : List ℕ) (old new : List (Option Stored)) (count key : ℕ) → Dropped kept old new count → (get_or new key None ≡ None) ⊎ (get_or new key None ≡ get_or old key None)
+dropped_or_same kept old new count key d = elim (found_or_absent kept key count) [
+  | inl at ↦ inl (ap (λ k. get_or new k None) (sym at.2) ∙ d.dropped at.0 at.1)
+  | inr absent ↦ inr (d.others key absent)
+]
+
+pub trimmed_store : (old new : List (Option Stored)) (kept left passing : List ℕ) (count capacity room : ℕ) → IsStore old kept passing capacity → room ≡ capacity → count ≤ length kept → left ≡ drop count kept → Dropped kept old new count → IsStore new left passing room
+trimmed_store old new kept left passing count capacity room s same below lefts d =
     let o = s.order in
     let gone : (k : ℕ) → k < count → holds_kept (get_or new (get_or kept k 0) None) ≡ true → ⊥ = λ k lt here. both_ways (holds_kept (get_or new (get_or kept k 0) None)) (ap holds_kept (d.dropped k lt)) here in
     let len : length left ≡ length kept - count = ap length lefts ∙ length-drop count kept in
@@ -69,10 +90,14 @@ trimmed_store old new kept left count capacity room s same below lefts d =
             let equal : count + i ≡ count + k = o.once (count + i) (count + k) e (omega arith) (omega arith) (sym (at i e) ∙ alike ∙ at k e) in
             omega arith;
       };
+      covered = λ key here. elim (dropped_or_same kept old new count key d) [
+        | inl gone ↦ absurd (both_ways (ends (get_or new key None)) (ap ends gone) here)
+        | inr stays ↦ s.covered key (ap ends (sym stays) ∙ here)
+      ];
     }
 
-pub trims_made : (old new : Store) (keep count : ℕ) → count ≡ length old.kept - keep → new.kept ≡ drop count old.kept → Dropped old.kept old.slots new.slots count → Trims old new keep
-trims_made old new keep count is lefts d =
+pub trims_made : (old new : Store) (keep count : ℕ) → count ≡ length old.kept - keep → new.kept ≡ drop count old.kept → new.fresh ≡ old.fresh → Dropped old.kept old.slots new.slots count → Trims old new keep
+trims_made old new keep count is lefts fresh d =
     let within : length old.kept - keep ≤ length old.kept = omega arith in
     let n : ℕ = length old.kept - keep in
     let e : Dropped old.kept old.slots new.slots n = subst (Dropped old.kept old.slots new.slots) is d in
@@ -84,4 +109,5 @@ trims_made old new keep count is lefts d =
           let small : k < n = omega arith in
           ap (λ y. get_or new.slots y None) (read k x small) ∙ e.dropped k small;
       others = λ key absent. e.others key (λ k lt here. absent (k, omega arith, read k key lt ∙ here));
+      fresh = fresh;
     }

@@ -1,4 +1,4 @@
 pub mod Kept
-pub mod Keys
 pub mod Looks
 pub mod Propagation
+pub mod Passing

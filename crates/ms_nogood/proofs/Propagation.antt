@@ -1,7 +1,6 @@
 -- What propagation assigns, step by step.
 use Rattle.std.proofs.Common.{ℕ, ◌≡◌, ◌<◌, ◌≤◌, ◌⊎◌, inl, inr, zero, suc, List, [], ◌∷◌, ◌++◌, Option, Some, None, Bool, true, false, length, get_or, take, option_map, sym, ◌∙◌, ap, subst, arith, refl, append_assoc}
 use Rattle.std.specs.Prelude.{All, Contains, not, IsTrue, is_some}
-use Rattle.std.specs.List.{filter_map, cons_option}
 use lib.Dec.{eqb}
 use Rattle.std.proofs.lemmas.Bool.{cases_Bool, cases_eq, cases_lt, cond-true, cond-false, eq-eqb, ne_eqb}
 use Rattle.std.proofs.lemmas.List.{append-nil, map-append, length-append, take-append-le, take_at}
@@ -13,7 +12,7 @@ use Rattle.ms_lits.specs.declared.trail.Entry.{Entry}
 use Rattle.ms_lits.specs.Literals.{Nogood, opposite_of, IsWhole, Forces, IsDerived}
 use Rattle.ms_lits.specs.Assignment.{Assignment, entry_of, entry_made, value_in, HoldsIn, IsUnitIn}
 use Rattle.ms_nogood.specs.Store.{Store, Stored, Adds, nogood_at, awake_in}
-use Rattle.ms_nogood.specs.Propagation.{literals_of, nogoods_in, lits_of, has_truth, held_in, IsForced, Propagates, IsSettled, IsWithin}
+use Rattle.ms_nogood.specs.Propagation.{IsStored, lits_of, has_truth, held_in, IsForced, Propagates, IsSettled, IsWithin}
 use Rattle.ms_nogood.specs.Looks.{IsCalmAt}
 use Rattle.ms_nogood.proofs.Looks.{lit_same}
 
@@ -27,30 +26,8 @@ pub stored_read : (slot : Option Stored) (lits : Nogood) → option_map (λ (s :
 stored_read None lits is = cc
 stored_read (Some s) lits is = record { stored = s; found = refl; same = cc }
 
-among_more : (option : Option Nogood) (nogoods : List Nogood) (nogood : Nogood) → Contains nogoods nogood → Contains (cons_option option nogoods) nogood
-among_more None nogoods nogood among = among
-among_more (Some first) nogoods nogood among =
-    let k : ℕ = among.0 in
-    let lt : k < length nogoods = among.1 in
-    (suc k, omega arith, among.2)
-
-among_first : (nogoods : List Nogood) (nogood : Nogood) → Contains (nogood ∷ nogoods) nogood
-among_first nogoods nogood = (0, omega arith, refl)
-
-pub stored_among : (slots : List (Option Stored)) (key : ℕ) (s : Stored) → awake_in (get_or slots key None) ≡ Some s → Contains (filter_map literals_of slots) s.lits
-stored_among [] key s is = cc
-stored_among (slot ∷ slots) zero s is =
-    subst (λ (o : Option Nogood). Contains (cons_option o (filter_map literals_of slots)) s.lits) (sym (ap (option_map (λ (x : Stored). x.lits)) is))
-    (among_first (filter_map literals_of slots) s.lits)
-stored_among (slot ∷ slots) (suc key) s is = among_more (literals_of slot) (filter_map literals_of slots) s.lits (stored_among slots key s is)
-
-all_with : (P : Nogood → Type 0) (slot : Option Stored) (nogoods : List Nogood) → ((s : Stored) → slot ≡ Some s → P s.lits) → All P nogoods → All P (cons_option (option_map (λ (x : Stored). x.lits) slot) nogoods)
-all_with P None nogoods first rest = rest
-all_with P (Some t) nogoods first rest = All-cons P t.lits nogoods (first t refl) rest
-
-all_stored : (P : Nogood → Type 0) (slots : List (Option Stored)) → ((key : ℕ) (s : Stored) → awake_in (get_or slots key None) ≡ Some s → P s.lits) → All P (filter_map literals_of slots)
-all_stored P [] each = All-nil P
-all_stored P (slot ∷ slots) each = all_with P (awake_in slot) (filter_map literals_of slots) (each 0) (all_stored P slots (λ key s is. each (suc key) s is))
+pub stored_among : (store : Store) (key : ℕ) (s : Stored) → nogood_at store key ≡ Some s → IsStored store s.lits
+stored_among store key s found = record { key = key; stored = s; found = found; same = refl }
 
 truth_had : (value : Option Bool) (truth : Bool) → value ≡ Some truth → has_truth value truth ≡ true
 truth_had None truth is = cc
@@ -136,7 +113,7 @@ pub propagates_one : (store : Store) (a b : Assignment) (key : ℕ) (s : Stored)
 propagates_one store a b key s lit forced_lit found unit opposite is =
     let e : Entry = entry_made (opposite_of lit) a.level (Some key) in
     let more : List Entry = a.entries ++ e ∷ [] in
-    let D : Lit → Type 0 = IsDerived (nogoods_in store) (lits_of a.entries) in
+    let D : Lit → Type 0 = IsDerived (IsStored store) (lits_of a.entries) in
     let forced : IsForced store a.level a.entries e = record {
       at_level = refl;
       key = key;
@@ -146,7 +123,7 @@ propagates_one store a b key s lit forced_lit found unit opposite is =
       unit = subst (IsUnitIn a.entries s.lits) (sym (opposite_twice lit)) unit;
     } in
     let last : D (opposite_of lit) = λ set whole closed.
-    All-contains (λ (nogood : Nogood). (l : Lit) → Forces set nogood l → IsTrue (set (opposite_of l))) (nogoods_in store) s.lits closed (stored_among store.slots key s found) lit (record {
+    closed s.lits (stored_among store key s found) lit (record {
       contained = unit.contained;
       others = All-weaker (λ (other : Lit). (other ≡ lit) ⊎ HoldsIn a.entries other) (λ (other : Lit). (other ≡ lit) ⊎ IsTrue (set other))
           (λ other h. elim h [ inl same ↦ inl same | inr holds ↦ inr (held_in_set set a.entries other holds whole) ])
@@ -167,25 +144,23 @@ propagates_one store a b key s lit forced_lit found unit opposite is =
           (All-push D (lits_of a.entries) (opposite_of lit) (λ k d lt set whole closed. whole k d lt) last);
     })
 
+-- what holds of each nogood that a key has holds of each of the store
+pub all_stored : (P : Nogood → Type 0) (store : Store) → ((key : ℕ) (s : Stored) → nogood_at store key ≡ Some s → P s.lits) → (nogood : Nogood) → IsStored store nogood → P nogood
+all_stored P store each nogood among = subst P among.same (each among.key among.stored among.found)
+
 pub settled_from : (store : Store) (entries : List Entry) → ((key : ℕ) → IsCalmAt store entries key) → IsSettled store entries
 settled_from store entries calm =
     let set : Lit → Bool = held_in entries in
     record {
-      closed = all_stored (λ (nogood : Nogood). (l : Lit) → Forces set nogood l → IsTrue (set (opposite_of l))) store.slots
+      closed = all_stored (λ (nogood : Nogood). (l : Lit) → Forces set nogood l → IsTrue (set (opposite_of l))) store
           (λ key s is l forces. held_from entries (opposite_of l) ((calm key s is).closed l
           (All-weaker (λ (other : Lit). (other ≡ l) ⊎ IsTrue (set other)) (λ (other : Lit). (other ≡ l) ⊎ HoldsIn entries other)
           (λ other h. elim h [ inl same ↦ inl same | inr held ↦ inr (holds_from entries other held) ])
           s.lits forces.others)));
-      none_whole = λ w.
-          All-contains (λ (nogood : Nogood). IsWhole set nogood → ⊥) (nogoods_in store) w.nogood
-          (all_stored (λ (nogood : Nogood). IsWhole set nogood → ⊥) store.slots
-          (λ key s is whole. (calm key s is).not_whole (All-weaker (λ (other : Lit). IsTrue (set other)) (HoldsIn entries) (holds_from entries) s.lits whole)))
-          w.among w.whole;
+      none_whole = λ w. all_stored (λ (nogood : Nogood). IsWhole set nogood → ⊥) store
+          (λ key s is whole. (calm key s is).not_whole (All-weaker (λ (other : Lit). IsTrue (set other)) (HoldsIn entries) (holds_from entries) s.lits whole))
+          w.nogood w.among w.whole;
     }
-
-pub unassigned_entry : (found : Option Entry) → option_map (λ (e : Entry). e.lit.truth) found ≡ None → found ≡ None
-unassigned_entry None is = refl
-unassigned_entry (Some e) is = cc
 
 awake_same : (stored s : Stored) → awake_in (Some stored) ≡ Some s → stored ≡ s
 awake_same stored s is = elim (cases_Bool (is_some stored.kind)) [

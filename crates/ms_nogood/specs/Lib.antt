@@ -3,3 +3,4 @@ pub mod Keys
 pub mod Propagation
 pub mod Looks
 pub mod Theories
+pub mod Watching

@@ -1,21 +1,20 @@
 -- Unit propagation: what a scan of a store assigns on a trail.
 use Rattle.std.specs.Prelude.{ℕ, ◌≡◌, ◌<◌, ◌≤◌, ◌++◌, Bool, true, false, not, List, Option, Some, None, option_map, map, take, length, All}
-use Rattle.std.specs.List.{filter_map, slice_index_or}
+use Rattle.std.specs.List.{slice_index_or}
 use Rattle.ms_lits.specs.declared.lit.Lit.{Lit}
 use Rattle.ms_lits.specs.declared.trail.Entry.{Entry}
 use Rattle.ms_lits.specs.Literals.{Nogood, opposite_of, IsClosed, IsDerived, HasWhole}
 use Rattle.ms_lits.specs.Assignment.{Assignment, value_in, IsWholeIn, IsUnitIn}
-use Rattle.ms_nogood.specs.Store.{Store, Stored, nogood_at, awake_in}
+use Rattle.ms_nogood.specs.Store.{Store, Stored, nogood_at}
 use Rattle.ms_nogood.specs.declared.scan.Scan.{Scan}
 use Rattle.ms_nogood.specs.declared.scan.Scan.TheVariants.{Closed, Violated}
 
--- the literals of what is awake
-abbrev pub literals_of : Option Stored → Option Nogood
-literals_of slot = option_map (λ s. s.lits) (awake_in slot)
-
--- the nogoods of the store, by rising keys
-abbrev pub nogoods_in : Store → List Nogood
-nogoods_in store = filter_map literals_of store.slots
+-- The nogood is in the store: a key has it, and it isn't asleep.
+pub record IsStored (store : Store) (nogood : Nogood) : Type 0 where
+  pub key : ℕ
+  pub stored : Stored
+  pub found : nogood_at store key ≡ Some stored
+  pub same : stored.lits ≡ nogood
 
 -- the literals of the entries
 abbrev pub lits_of : List Entry → List Lit
@@ -57,12 +56,12 @@ pub record Propagates (store : Store) (old new : Assignment) : Type 0 where
   pub added : List Entry
   pub entries : new.entries ≡ old.entries ++ added
   pub forced : (i : ℕ) (d : Entry) → length old.entries ≤ i → i < length new.entries → IsForced store old.level (take i new.entries) (slice_index_or new.entries i d)
-  pub derived : All (IsDerived (nogoods_in store) (lits_of old.entries)) (lits_of new.entries)
+  pub derived : All (IsDerived (IsStored store) (lits_of old.entries)) (lits_of new.entries)
 
 -- The literals that hold are closed, and no nogood is whole in them.
 pub record IsSettled (store : Store) (entries : List Entry) : Type 0 where
-  pub closed : IsClosed (nogoods_in store) (held_in entries)
-  pub none_whole : ¬ HasWhole (nogoods_in store) (held_in entries)
+  pub closed : IsClosed (IsStored store) (held_in entries)
+  pub none_whole : ¬ HasWhole (IsStored store) (held_in entries)
 
 -- What a scan answers of the entries that it leaves.
 abbrev pub Answers : Store → List Entry → Scan → Type 0

@@ -28,10 +28,17 @@ pub record Stored : Type 0 where
   pub lits : Nogood
   pub kind : Option Kind
 
--- What is at each key, asleep or not, and the keys of the kept ones in the order in which they were added.
+-- What is at each key, asleep or not, the keys of the kept ones in the order in which they were added, and the keys
+-- that were given since these were last forgotten.
 pub record Store : Type 0 where
   pub slots : List (Option Stored)
   pub kept : List ℕ
+  pub fresh : List ℕ
+
+-- whether the end of a solve drops what is stored
+abbrev pub ends : Option Stored → Bool
+ends None = false
+ends (Some s) = ends_by_kind s.kind
 
 -- what is at a key, asleep or not
 abbrev pub slot_at : Store → ℕ → Option Stored
@@ -72,17 +79,32 @@ pub record Adds (old new : Store) (stored : Stored) (key : ℕ) : Type 0 where
   pub added : slot_at new key ≡ Some stored
   pub others : (other : ℕ) → other ≢ key → slot_at new other ≡ slot_at old other
   pub kept : new.kept ≡ kept_after old.kept stored.kind key
+  pub fresh : new.fresh ≡ old.fresh ++ key ∷ []
 
 -- The nogood of this key is now in the store, with the kind Base, and all else stays.
 pub record Wakes (old new : Store) (key : ℕ) : Type 0 where
   pub woken : slot_at new key ≡ option_map (λ s. record { lits = s.lits; kind = Some Base }) (slot_at old key)
   pub others : (other : ℕ) → other ≢ key → slot_at new other ≡ slot_at old other
   pub kept : new.kept ≡ old.kept
+  pub fresh : new.fresh ≡ old.fresh
 
--- What is stored below a capacity, with the order of the kept keys.
-pub record IsStore (slots : List (Option Stored)) (kept : List ℕ) (capacity : ℕ) : Type 0 where
+-- The nogood of this key is dropped, and all else stays.
+pub record Drops (old new : Store) (key : ℕ) : Type 0 where
+  pub dropped : slot_at new key ≡ None
+  pub others : (other : ℕ) → other ≢ key → slot_at new other ≡ slot_at old other
+  pub kept : new.kept ≡ old.kept
+  pub fresh : new.fresh ≡ old.fresh
+
+-- The keys that the end of a solve drops are among these.
+abbrev pub CoverEnding : List (Option Stored) → List ℕ → Type 0
+CoverEnding slots keys = (key : ℕ) → ends (slice_index_or slots key None) ≡ true → Contains keys key
+
+-- What is stored below a capacity, with the order of the kept keys, and keys among which those are that the end of a
+-- solve drops.
+pub record IsStore (slots : List (Option Stored)) (kept passing : List ℕ) (capacity : ℕ) : Type 0 where
   pub ended : (key : ℕ) → capacity ≤ key → slice_index_or slots key None ≡ None
   pub order : AreKept slots kept
+  pub covered : CoverEnding slots passing
 
 -- what is left of a nogood at the end of a solve
 abbrev pub lasting : Option Stored → Option Stored
@@ -93,9 +115,11 @@ lasting (Some s) = cond (ends_by_kind s.kind) None (Some s)
 pub record EndsSolve (old new : Store) : Type 0 where
   pub lasts : (key : ℕ) → slot_at new key ≡ lasting (slot_at old key)
   pub kept : new.kept ≡ old.kept
+  pub fresh : new.fresh ≡ old.fresh
 
 -- The first kept nogoods are dropped, so many that the last ones are left, and all else stays.
 pub record Trims (old new : Store) (keep : ℕ) : Type 0 where
   pub kept : new.kept ≡ drop (length old.kept - keep) old.kept
   pub dropped : All (λ key. slot_at new key ≡ None) (take (length old.kept - keep) old.kept)
   pub others : (key : ℕ) → ¬ Contains (take (length old.kept - keep) old.kept) key → slot_at new key ≡ slot_at old key
+  pub fresh : new.fresh ≡ old.fresh

@@ -3,11 +3,13 @@
 
 mod kind;
 mod nogoods;
+mod propagate;
 mod scan;
 mod theory;
 
 pub use kind::Kind;
 pub use ms_lits::{Lit, OutOfMemory};
 pub use nogoods::Nogoods;
+pub use propagate::{Plain, Propagate};
 pub use scan::Scan;
 pub use theory::{Theory, Verdict};

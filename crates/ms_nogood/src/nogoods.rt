@@ -1,6 +1,7 @@
-ghost use Rattle.std.specs.Prelude.{◌≡◌, ◌≢◌, ◌++◌, [], IfOk, OnErr, IsSome, Some, None, AllPairs, option_map, MatchOption, ◌≤◌, ◌-◌, ◌∷◌, ℕ, List, is_some, take, length};
-ghost use Rattle.ms_nogood.specs.Keys.{FindsFrom, FindsAmong, ends};
-ghost use Rattle.ms_nogood.specs.Store.{Adds, Wakes, IsAsleepAt, slot_at, nogood_at, ends_by_kind, EndsSolve, AreKept, Trims};
+ghost use Rattle.std.specs.Prelude.{◌≡◌, ◌≢◌, ◌<◌, ◌≤◌, ◌-◌, ◌∷◌, ◌++◌, [], ℕ, true, IfOk, OnErr, IsSome, Some, None, AllPairs, Contains, option_map, MatchOption, is_some, take, length, vec_capacity};
+ghost use Rattle.std.specs.List.{slice_index_or};
+ghost use Rattle.ms_nogood.specs.Keys.{FindsFrom};
+ghost use Rattle.ms_nogood.specs.Store.{Adds, Wakes, Drops, CoverEnding, IsAsleepAt, slot_at, nogood_at, ends, ends_by_kind, EndsSolve, AreKept, Trims};
 
 use crate::kind::Kind;
 use ms_lits::{Lit, OutOfMemory};
@@ -42,6 +43,10 @@ pub struct Nogoods {
     slots: Slab<Slot>,
     /// The keys of the kept nogoods, in the order in which they were added.
     kept: Vec<usize>,
+    /// Keys among which those are that the end of a solve drops.
+    passing: Vec<usize>,
+    /// The keys that were given since these were last forgotten.
+    fresh: Vec<usize>,
 }
 
 impl Model for Nogoods {
@@ -49,20 +54,22 @@ impl Model for Nogoods {
 
     ghost Value = { Store };
 
-    ghost view = { λ n. record { slots = n.slots.slots; kept = n.kept.items } };
+    ghost view = { λ n. record { slots = n.slots.slots; kept = n.kept.items; fresh = n.fresh.items } };
 
-    ghost invariant = { λ n. IsStore n.slots.slots n.kept.items n.slots.capacity };
+    ghost invariant = { λ n. IsStore n.slots.slots n.kept.items n.passing.items n.slots.capacity };
 }
 
 impl Nogoods {
     /// An empty store.
     pub fn new(alloc: Global) -> Nogoods
-        ensures { result ≡ record { slots = []; kept = [] } }
+        ensures { result ≡ record { slots = []; kept = []; fresh = [] } }
     {
         Nogoods {
             alloc,
             slots: Slab::new(alloc),
             kept: Vec::new(alloc),
+            passing: Vec::new(alloc),
+            fresh: Vec::new(alloc),
         }
     }
 
@@ -74,15 +81,17 @@ impl Nogoods {
     {
         let lits = SmallVec::from_slice(self.alloc, lits)?;
         self.kept.reserve(1)?;
+        self.passing.reserve(1)?;
+        self.fresh.reserve(1)?;
         let key = self.slots.insert(Slot {
             lits,
             kind: Some(kind),
         })?;
-        if let Kind::Kept = kind {
-            match self.kept.push(key) {
-                Ok(()) => (),
-                Err(_) => unreachable!(),
-            }
+        push(&mut self.fresh, key);
+        match kind {
+            Kind::Base => (),
+            Kind::Kept => push(&mut self.kept, key),
+            Kind::Temporary | Kind::Reason => push(&mut self.passing, key),
         }
         Ok(key)
     }
@@ -94,7 +103,9 @@ impl Nogoods {
     {
         let mut lits = SmallVec::new(self.alloc);
         lits.push(lit)?;
+        self.fresh.reserve(1)?;
         let key = self.slots.insert(Slot { lits, kind: None })?;
+        push(&mut self.fresh, key);
         Ok(key)
     }
 
@@ -163,15 +174,26 @@ impl Nogoods {
     pub fn end_solve(&mut self)
         ensures { EndsSolve self.old self.new }
     {
-        for key in 0..self.slots.capacity() {
-            let ends = match self.slots.get(key) {
-                Some(slot) => slot.ends_with_solve(),
-                None => false,
-            };
-            if ends {
+        while let Some(key) = self.passing.pop() {
+            if ends_at(&self.slots, key) {
                 self.slots.try_remove(key);
             }
         }
+    }
+
+    /// Drops a nogood before the end of the solve that it lasts for.
+    pub fn drop_passing(&mut self, key: usize)
+        requires { ends (slot_at self.old key) ≡ true }
+        ensures { Drops self.old self.new key }
+    {
+        self.slots.try_remove(key);
+    }
+
+    /// Forgets which keys are fresh.
+    pub fn forget_fresh(&mut self)
+        ensures { self.new ≡ record self.old { fresh = [] } }
+    {
+        self.fresh.clear();
     }
 
     /// Drops the kept nogoods but for so many that were added last.
@@ -197,49 +219,60 @@ impl Nogoods {
         None
     }
 
-    /// The least key of at least `from` whose nogood `end_solve` would drop.
-    pub fn ends_from(&self, from: usize) -> Option<usize>
-        ensures { FindsFrom (λ key. ends (slot_at self.now key)) from result }
+    /// The keys that were given since `forget_fresh` was last called, in this order. Some may have been dropped.
+    pub fn fresh(&self) -> &[usize]
+        ensures { result.now ≡ self.now.fresh }
     {
-        for key in from..self.end() {
-            if self.ends(key) {
-                return Some(key);
-            }
-        }
-        None
+        self.fresh.as_slice()
     }
 
-    /// The least key of at least `from` whose nogood `trim` would drop.
-    pub fn trims_from(&self, keep: u64, from: usize) -> Option<usize>
-        ensures { FindsAmong (take (length self.now.kept - keep) self.now.kept) from result }
+    /// Keys among which all those are that `end_solve` would drop.
+    pub fn passing(&self) -> &[usize]
+        ensures { CoverEnding self.now.slots result.now }
+    {
+        self.passing.as_slice()
+    }
+
+    /// The keys that `trim` would drop.
+    pub fn trimmed(&self, keep: u64) -> &[usize]
+        ensures keys { result.now ≡ take (length self.now.kept - keep) self.now.kept }
+        ensures order { AreKept self.now.slots self.now.kept }
     {
         let count = self.kept.len().saturating_sub(keep as usize);
-        let mut least = None;
-        for i in 0..count {
-            least = lesser(least, self.kept[i], from);
-        }
-        least
+        &self.kept[..count]
     }
 
-    fn ends(&self, key: usize) -> bool
+    /// Whether a key has a nogood, asleep or not.
+    pub fn contains(&self, key: usize) -> bool
+        ensures { result ≡ is_some (slot_at self.now key) }
+    {
+        self.slots.get(key).is_some()
+    }
+
+    /// Whether `end_solve` would drop the nogood of a key.
+    pub fn ends(&self, key: usize) -> bool
         ensures { result ≡ ends (slot_at self.now key) }
     {
-        match self.slots.get(key) {
-            Some(slot) => slot.ends_with_solve(),
-            None => false,
-        }
+        ends_at(&self.slots, key)
     }
 }
 
-/// The lesser of the least key so far and this one, where this one is at least `from`.
-fn lesser(least: Option<usize>, key: usize, from: usize) -> Option<usize>
-    ensures { (seen : List ℕ) → FindsAmong seen from least → FindsAmong (seen ++ key ∷ []) from result }
+fn ends_at(slots: &Slab<Slot>, key: usize) -> bool
+    ensures { result ≡ ends (slice_index_or slots.now.slots key None) }
 {
-    if key < from {
-        return least;
+    match slots.get(key) {
+        Some(slot) => slot.ends_with_solve(),
+        None => false,
     }
-    match least {
-        None => Some(key),
-        Some(first) => { if key < first { Some(key) } else { Some(first) } }
+}
+
+/// Appends to a list that has room.
+fn push(list: &mut Vec<usize>, key: usize)
+    requires { length list.old.items < vec_capacity list.old }
+    ensures { list.new.items ≡ list.old.items ++ key ∷ [] }
+{
+    match list.push(key) {
+        Ok(()) => (),
+        Err(_) => unreachable!(),
     }
 }

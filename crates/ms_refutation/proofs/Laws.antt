@@ -17,7 +17,7 @@ not-not : (b : Bool) → not (not b) ≡ b
 not-not true = refl
 not-not false = refl
 
-opposite_of-opposite_of : (lit : Lit) → opposite_of (opposite_of lit) ≡ lit
+pub opposite_of-opposite_of : (lit : Lit) → opposite_of (opposite_of lit) ≡ lit
 opposite_of-opposite_of lit = ap (λ b. record { var = lit.var; truth = b }) (not-not lit.truth)
 
 -- the literals of the first are in the set where the one resolved upon is
@@ -38,10 +38,11 @@ second_forces set second resolvent lit from among whole = record {
   ];
 }
 
-pub resolvent_refuted : (nogoods : List Nogood) (first second resolvent : Nogood) (lit : Lit) → IsRefuted nogoods first → Contains nogoods second → Resolves first second lit resolvent → IsRefuted nogoods resolvent
-resolvent_refuted nogoods first second resolvent lit refuted among resolves = λ set whole closed.
-    let forced = All-contains (λ nogood. (l : Lit) → Forces set nogood l → IsTrue (set (opposite_of l))) nogoods second closed among (opposite_of lit) (second_forces set second resolvent lit resolves.from_second resolves.in_second whole) in
-    refuted set (first_whole set first resolvent lit resolves.from_first whole (subst (λ l. IsTrue (set l)) (opposite_of-opposite_of lit) forced)) closed
+module _ (Among : Nogood → Type 0) where
+  pub resolvent_refuted : (first second resolvent : Nogood) (lit : Lit) → IsRefuted Among first → Among second → Resolves first second lit resolvent → IsRefuted Among resolvent
+  resolvent_refuted first second resolvent lit refuted among resolves = λ set whole closed.
+      let forced = closed second among (opposite_of lit) (second_forces set second resolvent lit resolves.from_second resolves.in_second whole) in
+      refuted set (first_whole set first resolvent lit resolves.from_first whole (subst (λ l. IsTrue (set l)) (opposite_of-opposite_of lit) forced)) closed
 
 Contains-more : (x lit : Lit) (xs : Nogood) → Contains xs lit → Contains (x ∷ xs) lit
 Contains-more x lit xs (k, h, e) = (suc k, omega arith, e)
@@ -57,15 +58,16 @@ among_or_whole set lit (x ∷ xs) all = elim all.0 [
   ]
 ]
 
-pub new_contains_none : (nogoods : List Nogood) (nogood small : Nogood) → IsNew nogoods nogood → Contains nogoods small → IsContained nogood small → ⊥
-new_contains_none nogoods nogood small fresh among contained =
-    let each = λ (k : ℕ) (d : Lit) (h : k < length small). All-contains (λ other. (other ≡ fresh.lit) ⊎ IsTrue (fresh.set other)) nogood (get_or small k d) fresh.others (contained k d h) in
-    elim (among_or_whole fresh.set fresh.lit small (recursion_from_All _ small each)) [
-      | inl inside ↦
-          let forced = All-contains (λ n. (l : Lit) → Forces fresh.set n l → IsTrue (fresh.set (opposite_of l))) nogoods small fresh.closed among fresh.lit (record { contained = inside; others = each }) in
-          false≢true (sym fresh.lacks ∙ forced)
-      | inr whole ↦ fresh.none_whole (record { nogood = small; among = among; whole = All-from_recursion _ small whole })
-    ]
+module _ (Among : Nogood → Type 0) where
+  pub new_contains_none : (nogood small : Nogood) → IsNew Among nogood → Among small → IsContained nogood small → ⊥
+  new_contains_none nogood small fresh among contained =
+      let each = λ (k : ℕ) (d : Lit) (h : k < length small). All-contains (λ other. (other ≡ fresh.lit) ⊎ IsTrue (fresh.set other)) nogood (get_or small k d) fresh.others (contained k d h) in
+      elim (among_or_whole fresh.set fresh.lit small (recursion_from_All _ small each)) [
+        | inl inside ↦
+            let forced = fresh.closed small among fresh.lit (record { contained = inside; others = each }) in
+            false≢true (sym fresh.lacks ∙ forced)
+        | inr whole ↦ fresh.none_whole (record { nogood = small; among = among; whole = All-from_recursion _ small whole })
+      ]
 
 below_neither : (n lower level : ℕ) → lower ≤ level → nat_le n level ≡ false → nat_le n lower ≡ false
 below_neither n lower level below over = grind (arith, nat_tests)

@@ -9,15 +9,15 @@ use Rattle.ms_lits.specs.declared.trail.Entry.{Entry}
 use Rattle.ms_lits.specs.Literals.{opposite_of, IsRefuted, IsWhole}
 use Rattle.ms_lits.specs.Assignment.{Assignment, IsAssignment, HoldsIn, entry_of}
 use Rattle.ms_nogood.specs.Store.{Store}
-use Rattle.ms_nogood.specs.Propagation.{IsSettled, IsWholeAt, Propagates, held_in, lits_of, nogoods_in}
+use Rattle.ms_nogood.specs.Propagation.{IsSettled, IsStored, IsWholeAt, Propagates, held_in, lits_of}
 use Rattle.ms_nogood.proofs.Propagation.{held_from, holds_from, held_in_set, stored_among}
 
-pub violated : (store : Store) (old new : Assignment) (key : ℕ) → Propagates store old new → IsWholeAt store new.entries key → IsRefuted (nogoods_in store) (lits_of old.entries)
+pub violated : (store : Store) (old new : Assignment) (key : ℕ) → Propagates store old new → IsWholeAt store new.entries key → IsRefuted (IsStored store) (lits_of old.entries)
 violated store old new key reached whole = λ set start closed.
     let all : IsWhole set (lits_of new.entries) = λ k d h. reached.derived k d h set start closed in
     inl (record {
       nogood = whole.stored.lits;
-      among = stored_among store.slots key whole.stored whole.found;
+      among = stored_among store key whole.stored whole.found;
       whole = λ k d h. held_in_set set new.entries (get_or whole.stored.lits k d) (whole.whole k d h) all;
     })
 
@@ -46,7 +46,7 @@ not_itself : (b : Bool) → Some b ≡ Some (not b) → ⊥
 not_itself true e = cc
 not_itself false e = cc
 
-pub settled : (store : Store) (old new : Assignment) → IsAssignment new → Propagates store old new → IsSettled store new.entries → IsRefuted (nogoods_in store) (lits_of old.entries) → ⊥
+pub settled : (store : Store) (old new : Assignment) → IsAssignment new → Propagates store old new → IsSettled store new.entries → IsRefuted (IsStored store) (lits_of old.entries) → ⊥
 settled store old new assignment reached end refuted =
     let holds = λ (k : ℕ) (d : Entry) (h : k < length old.entries).
     let here : get_or new.entries k d ≡ get_or old.entries k d = ap (λ es. get_or es k d) reached.entries ∙ get_or_append_left old.entries reached.added d k h in

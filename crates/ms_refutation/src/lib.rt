@@ -7,7 +7,7 @@ ghost use Rattle.ms_lits.specs.declared.lit.Lit.{Lit};
 ghost use Rattle.ms_lits.specs.declared.trail.Entry.{Entry};
 ghost use Rattle.ms_lits.specs.Assignment.{Assignment, HoldsIn, IsAssignment, up_to};
 ghost use Rattle.ms_lits.specs.Literals.{HasWhole, IsContained, IsNew, IsRefuted, IsWhole, Nogood, opposite_of};
-ghost use Rattle.ms_nogood.specs.Propagation.{IsSettled, IsWholeAt, Propagates, lits_of, nogoods_in};
+ghost use Rattle.ms_nogood.specs.Propagation.{IsSettled, IsStored, IsWholeAt, Propagates, held_in, lits_of};
 ghost use Rattle.ms_nogood.specs.Store.{Store};
 ghost use Rattle.ms_refutation.specs.Sets.{AreClosedPrefixes, IsTotalSet, Resolves};
 
@@ -24,7 +24,7 @@ pub fn resolvents_are_refuted()
 /// A nogood all of whose literals but one hold in settled entries, where the opposite of that one doesn't
 /// hold, brings something new.
 pub fn settled_entries_witness_newness()
-    ensures { (store : Store) (entries : List Entry) (nogood : Nogood) (lit : Lit) → IsSettled store entries → Contains nogood lit → All (λ other. (other ≡ lit) ⊎ HoldsIn entries other) nogood → ¬ HoldsIn entries (opposite_of lit) → IsNew (nogoods_in store) nogood }
+    ensures { (store : Store) (entries : List Entry) (nogood : Nogood) (lit : Lit) → IsSettled store entries → Contains nogood lit → All (λ other. (other ≡ lit) ⊎ HoldsIn entries other) nogood → ¬ HoldsIn entries (opposite_of lit) → IsNew (IsStored store) nogood }
 {}
 
 /// A nogood that brings something new contains none of the nogoods.
@@ -39,10 +39,10 @@ pub fn jumps_keep_closed_prefixes()
 
 /// Where a propagation ends with a whole nogood, the literals that it began with are refuted.
 pub fn a_violation_refutes()
-    ensures { (store : Store) (old new : Assignment) (key : ℕ) → Propagates store old new → IsWholeAt store new.entries key → IsRefuted (nogoods_in store) (lits_of old.entries) }
+    ensures { (store : Store) (old new : Assignment) (key : ℕ) → Propagates store old new → IsWholeAt store new.entries key → IsRefuted (IsStored store) (lits_of old.entries) }
 {}
 
 /// Where a propagation ends settled, the literals that it began with aren't refuted.
 pub fn a_settled_end_refutes_nothing()
-    ensures { (store : Store) (old new : Assignment) → IsAssignment new → Propagates store old new → IsSettled store new.entries → ¬ IsRefuted (nogoods_in store) (lits_of old.entries) }
+    ensures { (store : Store) (old new : Assignment) → IsAssignment new → Propagates store old new → IsSettled store new.entries → ¬ IsRefuted (IsStored store) (lits_of old.entries) }
 {}

@@ -4,7 +4,8 @@ use Rattle.std.proofs.lemmas.List.Elements.{All-contains}
 use Rattle.ms_lits.specs.declared.lit.Lit.{Lit}
 use Rattle.ms_lits.specs.Assignment.{IsUnitIn, entry_of}
 use Rattle.ms_nogood.specs.Store.{nogood_at}
-use Rattle.ms_nogood.proofs.Propagation.{stored_read, propagates_none, propagates_one, unassigned_entry}
+use Rattle.ms_lits.proofs.Seen.{unassigned_entry}
+use Rattle.ms_nogood.proofs.Propagation.{stored_read, propagates_none, propagates_one}
 use Rattle.ms_nogood.proofs.nogoods.Nogoods.visit.Goals as goal
 
 pub read_nogood-requires : goal.read_nogood-requires
