@@ -1,0 +1,6 @@
+pub mod Numbering
+pub mod Keys
+pub mod Bases
+pub mod Sets
+pub mod Rules
+pub mod Completing
