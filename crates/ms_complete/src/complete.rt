@@ -5,6 +5,8 @@ ghost use Rattle.ms_complete.specs.Numbering.{AreDeclared};
 ghost use Rattle.ms_complete.specs.Completing.{Completes};
 
 use crate::key::ThingKey;
+use crate::nogoods::add_rules;
+use crate::supports::{add_supports, supports_of};
 use indexmap::IndexSet;
 use ms_base::atom_id::AtomId;
 use ms_base::memory::OutOfMemory;

@@ -1,12 +1,12 @@
 // The completion nogoods of bodies and rules.
-ghost use Rattle.std.specs.Prelude.{◌≡◌, ◌∷◌, ◌++◌, [], true, false, List, Some, All, Any, Contains, OnOk, IfOk, slice_get, map};
+ghost use Rattle.std.specs.Prelude.{◌≡◌, ◌∷◌, ◌++◌, [], true, false, List, Some, All, Any, Contains, OnOk, IfOk, slice_get, map, ◌<◌, length};
 ghost use Rattle.ms_join.specs.Things.Thing.{atom, body};
 ghost use Rattle.ms_things.specs.Signs.{Signed, IsFor};
 ghost use Rattle.ms_things.specs.Completion.{parts_of};
 ghost use Rattle.ms_complete.specs.Keys.{plain};
 ghost use Rattle.ms_complete.specs.Bases.{AddsExactly};
 ghost use Rattle.ms_complete.specs.Sets.{Match};
-ghost use Rattle.ms_complete.specs.Rules.{RuleSays, BodySays, NewBodySays, signed_atoms};
+ghost use Rattle.ms_complete.specs.Rules.{RuleSays, BodySays, PartsSay, ThingSays, NewSay, signed_atoms};
 
 use crate::complete::Complete;
 use crate::key::{NumberedRule, ThingKey};
@@ -21,7 +21,7 @@ use std::alloc::Global;
 impl Complete {
     /// Adds those of the bodies from a number on.
     pub(crate) fn add_bodies(&self, known: usize, store: &mut Nogoods) -> Result<(), OutOfMemory>
-        ensures { OnOk result (AddsExactly store.old store.new (NewBodySays self.now.things known)) }
+        ensures { OnOk result (AddsExactly store.old store.new (NewSay self.now.things known)) }
     {
         for number in known..self.keys.len() {
             self.add_thing(number, store)?;

@@ -4,9 +4,9 @@ ghost use Rattle.ms_join.specs.Things.{Thing};
 ghost use Rattle.ms_join.specs.Things.Thing.{atom, body};
 ghost use Rattle.ms_things.specs.Numbers.{IsMadeOf};
 ghost use Rattle.ms_complete.specs.Keys.{thing_in, plain};
-ghost use Rattle.ms_complete.specs.Numbering.{Numbers, Declares, IsAtomOf, IsPartOf, IsOfRule, IsNewAtom};
+ghost use Rattle.ms_complete.specs.Numbering.{Numbers, Declares, IsAtomOf, IsPartOf, IsOfRule, IsHeadThing, IsNewAtom};
 ghost use Rattle.ms_complete.specs.Sets.{Match};
-ghost use Rattle.ms_complete.specs.Rules.{IsNumbered, IsAtomAt};
+ghost use Rattle.ms_complete.specs.Rules.{IsNumbered, IsAtomAt, IsHeadAt};
 
 use crate::complete::Complete;
 use crate::key::{NumberedRule, ThingKey};
@@ -59,8 +59,8 @@ impl Complete {
     }
 
     fn number_head(&mut self, head: Option<AtomId>) -> Result<Option<u32>, OutOfMemory>
-        ensures declares { OnOk result (Declares (λ t. IsAnyHead head t) self.old self.new) }
-        ensures number { IfOk result (AreHeads self.new.things head) }
+        ensures declares { OnOk result (Declares (IsHeadThing head) self.old self.new) }
+        ensures number { IfOk result (IsHeadAt self.new.things head) }
     {
         match head {
             Some(a) => Ok(Some(self.number_atom(a)?)),

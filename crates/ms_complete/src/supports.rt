@@ -1,8 +1,8 @@
 // The nogoods that say that an atom has a rule whose body holds.
-ghost use Rattle.std.specs.Prelude.{◌≡◌, ◌==◌, Any, OnOk, IfOk, Contains, ◌↔◌, ◌×◌, nat_cmp, IsSortedByKey};
+ghost use Rattle.std.specs.Prelude.{◌≡◌, Any, OnOk, IfOk, Contains, ◌↔◌};
 ghost use Rattle.ms_complete.specs.declared.key.Support.{Support};
 ghost use Rattle.ms_complete.specs.Bases.{AddsExactly};
-ghost use Rattle.ms_complete.specs.Rules.{HeadSays, AreSupports, IsByHead};
+ghost use Rattle.ms_complete.specs.Rules.{HeadSays, AreSupports, IsByHead, head_lits};
 
 use crate::key::{NumberedRule, Support};
 use crate::written::add_set;
