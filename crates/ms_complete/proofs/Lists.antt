@@ -1,9 +1,17 @@
 -- Lists by what holds of some, of each and of each pair of their elements.
-use Rattle.std.proofs.Common.{◌≡◌, ◌≢◌, ◌∙◌, ◌⊎◌, ◌+◌, ◌<◌, ◌≤◌, ℕ, zero, suc, List, [], ◌∷◌, ◌++◌, Option, Some, map, take, length, get_or, refl, sym, ap, subst, inl, inr, arith, length-append}
+use Rattle.std.proofs.Common.{◌≡◌, ◌≢◌, ◌∙◌, ◌⊎◌, ◌+◌, ◌<◌, ◌≤◌, ℕ, zero, suc, List, [], ◌∷◌, ◌++◌, Option, Some, None, map, take, length, get_or, refl, sym, ap, subst, inl, inr, arith, length-append}
 use Rattle.std.specs.Prelude.{slice_get}
+use Rattle.std.proofs.lemmas.Bool.{cases_eq, cases_lt}
+use Rattle.std.proofs.lemmas.Option.{none-some, get_or_from_slice_get, slice_get-get_or, slice_get_within}
 use Rattle.std.specs.List.{All, AllPairs, Any, Contains}
 use Rattle.std.proofs.lemmas.List.{get_or_append_left, get_or_default, take_more, take_all}
-use Rattle.std.proofs.lemmas.List.Elements.{Any-push, Contains-append_left, Contains-append_right, Contains-append_cases, Contains-push, Contains-push_cases}
+use Rattle.std.proofs.lemmas.List.Elements.{All-contains_itself, Contains-append_left, Contains-append_right, Contains-append_cases, Contains-push, Contains-push_cases}
+
+pub none_is_some : {X : Type 0} (x : X) → None ≡ Some x → ⊥
+none_is_some x e = none-some x e
+
+pub same_some : {X : Type 0} (x y : X) → Some x ≡ Some y → x ≡ y
+same_some {X} x y e = ap (λ (o : Option X). elim o [ None ↦ x | Some z ↦ z ]) e
 
 module _ {X : Type 0} where
   pub any_from : (P : X → Type 0) (xs : List X) (x : X) → Contains xs x → P x → Any P xs
@@ -28,7 +36,7 @@ module _ {X : Type 0} where
   ]
 
   pub any_none : (P : X → Type 0) → ¬ Any P []
-  any_none P some = absurd (omega (arith, some.2))
+  any_none P (k, x, within, is, p) = absurd (omega arith)
 
   pub any_one : (P : X → Type 0) (x : X) → Any P (x ∷ []) → P x
   any_one P x (zero, y, within, is, p) = subst P (sym is) p
@@ -66,8 +74,47 @@ module _ {X : Type 0} where
 
   -- what is at a place is a member, and a member is at a place
   pub some_at : (xs : List X) (k : ℕ) (x : X) → slice_get xs k ≡ Some x → Contains xs x
-  some_at [] k x is = absurd (search (rules, is))
-  some_at xs k x is = ?
+  some_at xs k x is = (k, slice_get_within xs k x is, get_or_from_slice_get xs k x x is)
 
   pub at_some : (xs : List X) (x : X) → Contains xs x → (k : ℕ) × (slice_get xs k ≡ Some x)
-  at_some xs x has = ?
+  at_some xs x (k, within, is) = (k, slice_get-get_or xs k x within ∙ ap Some is)
+
+  -- a place in the front of a list
+  pub at_left : (xs ys : List X) (k : ℕ) (x : X) → slice_get xs k ≡ Some x → slice_get (xs ++ ys) k ≡ Some x
+  at_left xs ys k x is =
+      let within : k < length xs = slice_get_within xs k x is in
+      let long : k < length (xs ++ ys) = omega (arith, within, length-append xs ys) in
+      slice_get-get_or (xs ++ ys) k x long ∙ ap Some (get_or_append_left xs ys x k within ∙ get_or_from_slice_get xs k x x is)
+
+  pub some_once : (xs : List X) → AllPairs (λ x y. x ≢ y) xs → (i j : ℕ) (x : X) → slice_get xs i ≡ Some x → slice_get xs j ≡ Some x → i ≡ j
+  some_once xs once i j x first second =
+      let at_i : get_or xs i x ≡ x = get_or_from_slice_get xs i x x first in
+      let at_j : get_or xs j x ≡ x = get_or_from_slice_get xs j x x second in
+      let in_i : i < length xs = slice_get_within xs i x first in
+      let in_j : j < length xs = slice_get_within xs j x second in
+      elim (cases_eq i j) [
+        | inl same ↦ same
+        | inr differ ↦ elim (cases_lt i j) [
+          | inl less ↦ absurd (once i j x less in_j (at_i ∙ sym at_j))
+          | inr least ↦ let more : j < i = omega (arith, least, differ) in absurd (once j i x more in_i (at_j ∙ sym at_i))
+        ]
+      ]
+
+  -- what holds of each member holds of each
+  pub all_from : (P : X → Type 0) (xs : List X) → ((x : X) → Contains xs x → P x) → All P xs
+  all_from P xs each k d within = each (get_or xs k d) (All-contains_itself xs k d within)
+
+pub at_map : {X Y : Type 0} (f : X → Y) (xs : List X) (k : ℕ) (x : X) → slice_get xs k ≡ Some x → slice_get (map f xs) k ≡ Some (f x)
+at_map f [] k x is = absurd (none_is_some x is)
+at_map f (y ∷ xs) zero x is = ap Some (ap f (same_some y x is))
+at_map f (y ∷ xs) (suc k) x is = at_map f xs k x is
+
+pub member_map : {X Y : Type 0} (f : X → Y) (xs : List X) (x : X) → Contains xs x → Contains (map f xs) (f x)
+member_map f xs x has = let (k, is) = at_some xs x has in some_at (map f xs) k (f x) (at_map f xs k x is)
+
+pub member_map_cases : {X Y : Type 0} (f : X → Y) (xs : List X) (y : Y) → Contains (map f xs) y → (x : X) × Contains xs x × (f x ≡ y)
+member_map_cases f [] y has = absurd (member_none y has)
+member_map_cases f (x ∷ xs) y has = elim (member_cases (f x) y (map f xs) has) [
+  | inl is ↦ (x, member_here x xs, is)
+  | inr later ↦ let (z, there, is) = member_map_cases f xs y later in (z, member_later x z xs there, is)
+]

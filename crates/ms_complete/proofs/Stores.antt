@@ -1,24 +1,19 @@
 -- Adding nogoods of the program step by step.
-use Rattle.std.proofs.Common.{◌≡◌, ◌≢◌, ◌∙◌, ◌⊎◌, ℕ, Option, Some, None, refl, sym, ap, subst, inl, inr, arith}
+use Rattle.std.proofs.Common.{◌≡◌, ◌≢◌, ◌∙◌, ◌⊎◌, ℕ, Option, Some, None, refl, sym, ap, subst, inl, inr}
 use Rattle.std.specs.Prelude.{◌↔◌}
 use Rattle.std.proofs.lemmas.Bool.{cases_eq}
 use Rattle.ms_lits.specs.Literals.{Nogood}
 use Rattle.ms_nogood.specs.declared.kind.Kind.TheVariants.{Base}
 use Rattle.ms_nogood.specs.Store.{Store, Stored, Adds, slot_at}
+use Rattle.ms_complete.proofs.Lists.{none_is_some, same_some}
 use Rattle.ms_complete.specs.Bases.{base_of, HasBase, HasExactly, AddsExactly, KeepsKeys}
-
-some_injective : (a b : Stored) → Some a ≡ Some b → a ≡ b
-some_injective a b e = ap (λ (o : Option Stored). elim o [ None ↦ a | Some x ↦ x ]) e
-
-none_some : {A : Type 0} (s : Stored) → None ≡ Some s → A
-none_some s e = absurd (search rules)
 
 -- no nogood has been added
 pub adds_none : (store : Store) (Is : Nogood → Type 0) → ((nogood : Nogood) → ¬ Is nogood) → AddsExactly store store Is
-adds_none store Is no = record {
+adds_none store Is none = record {
   keeps = λ key stored is. is;
   each = λ key stored is. inl is;
-  all = λ nogood is. absurd (no nogood is);
+  all = λ nogood is. absurd (none nogood is);
   kept = refl;
 }
 
@@ -57,11 +52,11 @@ pub adds_one : (old new : Store) (nogood : Nogood) (key : ℕ) (Is : Nogood → 
     → ((n : Nogood) → Is n → n ≡ nogood) → AddsExactly old new Is
 adds_one old new nogood key Is adds is only = record {
   keeps = λ k stored at. elim (cases_eq k key) [
-    | inl same ↦ none_some stored (sym (ap (slot_at old) same ∙ adds.was_free) ∙ at)
+    | inl same ↦ absurd (none_is_some stored (sym (ap (slot_at old) same ∙ adds.was_free) ∙ at))
     | inr differ ↦ adds.others k differ ∙ at
   ];
   each = λ k stored at. elim (cases_eq k key) [
-    | inl same ↦ inr (nogood, some_injective stored (base_of nogood) (sym at ∙ (ap (slot_at new) same ∙ adds.added)), is)
+    | inl same ↦ inr (nogood, same_some stored (base_of nogood) (sym at ∙ (ap (slot_at new) same ∙ adds.added)), is)
     | inr differ ↦ inl (sym (adds.others k differ) ∙ at)
   ];
   all = λ n of. (key, adds.added ∙ ap (λ (m : Nogood). Some (base_of m)) (sym (only n of)));

@@ -1,20 +1,21 @@
 -- Rules by the numbers of their heads and bodies, and what their completion says in these numbers.
-use Rattle.std.specs.Prelude.{ℕ, ◌≡◌, ◌≤◌, ◌⊎◌, ◌==◌, ◌++◌, Bool, true, false, List, [], ◌∷◌, Option, Some, None, map, Any, Contains, ⊤, nat_cmp, IsSortedByKey, slice_get}
+use Rattle.std.specs.Prelude.{ℕ, ◌≡◌, ◌≤◌, ◌⊎◌, ◌==◌, ◌++◌, ◌<◌, Bool, true, false, List, [], ◌∷◌, Option, Some, None, map, Any, Contains, ⊤, slice_get}
 use Rattle.std.specs.List.{filter, filter_map}
 use Rattle.std.specs.Option.{option_map}
+use Rattle.std.specs.List.Sorted.{IsNonDecreasingBy}
 use Rattle.ms_lits.specs.declared.lit.Lit.{Lit}
 use Rattle.ms_lits.specs.Literals.{Nogood, opposite_of}
 use Rattle.ms_join.specs.declared.ground_rule.GroundKind.{GroundKind}
 use Rattle.ms_join.specs.declared.ground_rule.GroundKind.TheVariants.{Normal, Choice, Constraint}
 use Rattle.ms_join.specs.declared.ground_rule.GroundRule.{GroundRule}
-use Rattle.ms_join.specs.Things.{Thing}
+use Rattle.ms_join.specs.Things.{Body, Thing}
 use Rattle.ms_join.specs.Things.Thing.{atom, body, tuple, aggregate}
-use Rattle.ms_things.specs.Signs.{Signed, IsFor}
+use Rattle.ms_things.specs.Signs.{Signed, IsNogoodOf, plus, minus, turned}
 use Rattle.ms_things.specs.Completion.{parts_of}
 use Rattle.ms_complete.specs.declared.key.NumberedRule.{NumberedRule}
 use Rattle.ms_complete.specs.declared.key.Support.{Support}
 use Rattle.ms_complete.specs.Keys.{plain_body}
-use Rattle.ms_complete.specs.Sets.{Match, Writes, pair}
+use Rattle.ms_complete.specs.Sets.{Writes, pair}
 
 abbrev pub IsAtomAt : List Thing → ℕ → ℕ → Type 0
 IsAtomAt things a number = slice_get things number ≡ Some (atom a)
@@ -48,16 +49,20 @@ PartsSay number parts nogood = Any (λ part. Writes (pair (holds number) (opposi
 abbrev pub BodySays : ℕ → List Lit → Nogood → Type 0
 BodySays number parts nogood = PartsSay number parts nogood ⊎ Writes (parts ++ fails number ∷ []) nogood
 
--- the completion of the thing of a number
-abbrev pub ThingSaysAt : List Thing → ℕ → Option Thing → Nogood → Type 0
-ThingSaysAt things number None nogood = ⊥
-ThingSaysAt things number (Some (atom a)) nogood = ⊥
-ThingSaysAt things number (Some (body b)) nogood = (parts : List Lit) × Match (IsFor things) (parts_of b) parts × BodySays number parts nogood
-ThingSaysAt things number (Some (tuple t)) nogood = ⊥
-ThingSaysAt things number (Some (aggregate g)) nogood = ⊥
+-- a body holds and one of its parts doesn't, or its parts hold and it doesn't
+abbrev pub BodyNogood : List Thing → Body → Nogood → Type 0
+BodyNogood things b nogood = Any (λ part. IsNogoodOf things (plus (body b) ∷ turned part ∷ []) nogood) (parts_of b) ⊎ IsNogoodOf things (minus (body b) ∷ parts_of b) nogood
+
+-- the completion of a thing that is declared
+abbrev pub ThingNogood : List Thing → Option Thing → Nogood → Type 0
+ThingNogood things None nogood = ⊥
+ThingNogood things (Some (atom a)) nogood = ⊥
+ThingNogood things (Some (body b)) nogood = BodyNogood things b nogood
+ThingNogood things (Some (tuple t)) nogood = ⊥
+ThingNogood things (Some (aggregate g)) nogood = ⊥
 
 abbrev pub ThingSays : List Thing → ℕ → Nogood → Type 0
-ThingSays things number nogood = ThingSaysAt things number (slice_get things number) nogood
+ThingSays things number nogood = ThingNogood things (slice_get things number) nogood
 
 -- the completion of the things from a number on
 abbrev pub NewSay : List Thing → ℕ → Nogood → Type 0
@@ -84,8 +89,9 @@ pub record AreSupports (rules : List NumberedRule) (supports : List Support) : T
   pub each : (s : Support) → Contains supports s → Any (λ r. IsSupport r s) rules
   pub all : (s : Support) → Any (λ r. IsSupport r s) rules → Contains supports s
 
+-- they stand in the order of their heads
 abbrev pub IsByHead : List Support → Type 0
-IsByHead supports = IsSortedByKey (λ s. s.head) nat_cmp supports
+IsByHead supports = IsNonDecreasingBy (λ s. s.head) supports
 
 abbrev pub head_lits : ℕ → List Support → List Lit
 head_lits head own = holds head ∷ map (λ s. fails s.body) own

@@ -15,6 +15,7 @@ use ms_join::aggregate::TermIds;
 use ms_join::ground_module::GroundModule;
 use ms_join::ground_rule::GroundRule;
 use ms_nogood::Nogoods;
+use ms_term::TermId;
 use std::alloc::Global;
 use std::marker::Model;
 
@@ -88,14 +89,21 @@ impl Complete {
     pub fn extend(&mut self, m: &GroundModule, store: &mut Nogoods) -> Result<(), OutOfMemory>
         ensures { OnOk result (Completes self.old m.now store.old self.new store.new) }
     {
-        let known = self.keys.len();
+        let known = self.things();
+        self.take_names(m.names.as_slice())?;
         self.declare_atoms(m.first_new, m.fresh)?;
-        self.names.extend_from_slice(m.names.as_slice())?;
         let rules = self.number_rules(m.rules.as_slice())?;
         let heads = self.number_atoms(m.heads.as_slice())?;
-        self.add_bodies(known, store)?;
+        self.add_bodies(known as usize, store)?;
         add_rules(self.alloc, rules.as_slice(), store)?;
         let supports = supports_of(self.alloc, rules.as_slice())?;
         add_supports(self.alloc, heads.as_slice(), supports.as_slice(), store)
+    }
+
+    fn take_names(&mut self, names: &[TermId]) -> Result<(), OutOfMemory>
+        ensures { OnOk result (self.new ≡ record self.old { names = self.old.names ++ names.now }) }
+    {
+        self.names.extend_from_slice(names)?;
+        Ok(())
     }
 }

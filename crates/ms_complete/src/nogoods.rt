@@ -34,12 +34,12 @@ impl Complete {
         requires { number < length self.now.things }
         ensures { OnOk result (AddsExactly store.old store.new (ThingSays self.now.things number)) }
     {
-        match self.keys.get_index(number) {
-            Some(ThingKey::Body(pos, neg)) => {
+        match &self.keys.as_slice()[number] {
+            ThingKey::Atom(_) => Ok(()),
+            ThingKey::Body(pos, neg) => {
                 let parts = self.parts_of(pos.as_slice(), neg.as_slice())?;
                 add_body(self.alloc, number as u32, parts, store)
             }
-            _ => Ok(()),
         }
     }
 
