@@ -1,8 +1,9 @@
 -- The completion of a body, by numbers and by things.
-use Rattle.std.proofs.Common.{◌≡◌, ◌≢◌, ◌∙◌, ◌⊎◌, ◌+◌, ◌<◌, ◌≤◌, ℕ, not, true, false, List, [], ◌∷◌, ◌++◌, Option, Some, None, map, take, length, get_or, refl, sym, ap, subst, inl, inr, arith}
+use Rattle.std.proofs.Common.{◌≡◌, ◌≢◌, ◌∙◌, ◌⊎◌, ◌+◌, ◌<◌, ◌≤◌, ℕ, not, Bool, true, false, List, [], ◌∷◌, ◌++◌, Option, Some, None, map, take, length, get_or, refl, sym, ap, subst, inl, inr, arith, append_assoc}
 use Rattle.std.specs.Prelude.{slice_get}
 use Rattle.std.specs.List.{All, AllPairs, Any, Contains}
 use Rattle.std.proofs.lemmas.Bool.{cases_eq, cases_lt}
+use Rattle.std.proofs.lemmas.List.{map-append}
 use Rattle.std.proofs.lemmas.List.Elements.{All-cons, All-contains, Contains-push, Contains-push_cases, Contains-append_left}
 use Rattle.std.proofs.lemmas.Option.{slice_get_within}
 use Rattle.ms_lits.specs.declared.lit.Lit.{Lit}
@@ -14,9 +15,10 @@ use Rattle.ms_things.specs.Signs.{Signed, IsFor, IsNogoodOf, plus, minus, turned
 use Rattle.ms_things.specs.Completion.{parts_of}
 use Rattle.ms_complete.specs.Bases.{AddsExactly}
 use Rattle.ms_complete.specs.Numbering.{AreDeclared}
-use Rattle.ms_complete.specs.Rules.{holds, fails, PartsSay, BodySays, BodyNogood, ThingNogood, ThingSays, NewSay}
+use Rattle.ms_complete.specs.Rules.{holds, fails, signed_atoms, PartsSay, BodySays, BodyNogood, ThingNogood, ThingSays, NewSay}
 use Rattle.ms_complete.specs.Sets.{Match, Writes, pair}
-use Rattle.ms_complete.proofs.Lists.{any_from, any_here, any_later, any_left, member_of, none_is_some, some_at, all_from}
+use Rattle.ms_complete.proofs.Lists.{any_from, any_here, any_later, any_left, member_of, none_is_some, some_at, all_from, next_one}
+use Rattle.ms_complete.proofs.NumberLaws.{match_push}
 use Rattle.ms_complete.proofs.Stores.{adds_none, adds_same, adds_then}
 use Rattle.ms_complete.proofs.Writing.{nogood_from, writes_from}
 use Rattle.ms_complete.proofs.Carried.{match_two, thing_says}
@@ -100,3 +102,26 @@ all_between things known end start new long adds =
     let (b, at, nogood) = thing_says things (slice_get things k) n says in
     let within : k < length things = slice_get_within things k (body b) at in
     (k, least, omega (arith, within, long), says))
+
+-- the signed atoms that a loop has turned into literals, and the next one
+pub signs_next : (things : List Thing) (truth : Bool) (atoms : List ℕ) (signs : List Signed) (lits nexts : List Lit) (i a var : ℕ) → i < length atoms → a ≡ get_or atoms i a
+    → slice_get things var ≡ Some (atom a) → Match (IsFor things) (signs ++ signed_atoms truth (take i atoms)) lits → nexts ≡ lits ++ record { var = var; truth = truth } ∷ []
+    → Match (IsFor things) (signs ++ signed_atoms truth (take (i + 1) atoms)) nexts
+signs_next things truth atoms signs lits nexts i a var within is at before pushed =
+    let sign : Signed = record { thing = atom a; truth = truth } in
+    let lit : Lit = record { var = var; truth = truth } in
+    let more : signed_atoms truth (take (i + 1) atoms) ≡ signed_atoms truth (take i atoms) ++ sign ∷ [] =
+        ap (signed_atoms truth) (next_one atoms i a within is) ∙ map-append (λ (b : ℕ). let s : Signed = record { thing = atom b; truth = truth } in s) (take i atoms) (a ∷ []) in
+    let all : (signs ++ signed_atoms truth (take i atoms)) ++ sign ∷ [] ≡ signs ++ signed_atoms truth (take (i + 1) atoms) =
+        append_assoc signs (signed_atoms truth (take i atoms)) (sign ∷ []) ∙ ap (λ (ss : List Signed). signs ++ ss) (sym more) in
+    subst (λ (ls : List Lit). Match (IsFor things) (signs ++ signed_atoms truth (take (i + 1) atoms)) ls) (sym pushed)
+    (subst (λ (ss : List Signed). Match (IsFor things) ss (lits ++ lit ∷ [])) all
+    (match_push (IsFor things) (IsFor things) (λ s l f. f) (signs ++ signed_atoms truth (take i atoms)) lits sign lit before (at, refl)))
+
+-- what adding the sets of a body adds
+pub both_added : (number : ℕ) (parts slice whole : List Lit) (a b c : Store) → slice ≡ parts → whole ≡ parts ++ fails number ∷ [] → AddsExactly a b (PartsSay number slice) → AddsExactly b c (Writes whole)
+    → AddsExactly a c (BodySays number parts)
+both_added number parts slice whole a b c is whole_is first second =
+    adds_then a b c (PartsSay number parts) (Writes (parts ++ fails number ∷ [])) (BodySays number parts)
+    (subst (λ (ls : List Lit). AddsExactly a b (PartsSay number ls)) is first) (subst (λ (ls : List Lit). AddsExactly b c (Writes ls)) whole_is second)
+    (λ n p. p) (λ n p. inl p) (λ n p. inr p)

@@ -64,3 +64,28 @@ module _ (old named atoms_in rules_in new : Numbering) (m : GroundModule) (numbe
         keeps = keeps_keys s0 s3 (λ n. NewSay new.things (length old.things) n ⊎ (Any (λ r. RuleSays r n) numbered ⊎ Any (λ number. HeadSays supports number n) numbers)) adds;
         completes = λ j joined can joins. are_of j joined m s0 base new numbered joins can d supports are_supports numbers heads s3 adds;
       }
+
+-- the same where the parts of the module and what was found of it are lent as slices
+pub extended : (old named atoms_in rules_in new : Numbering) (m : GroundModule) (names : List ℕ) (rules : List GroundRule) (heads : List ℕ) (numbered : List NumberedRule) (numbers : List ℕ) (supports : List Support)
+    → (numbered_too numbered_again : List NumberedRule) (numbers_too : List ℕ) (supports_too : List Support) (s0 s1 s2 s3 : Store) (known : ℕ)
+    → names ≡ m.names → rules ≡ m.rules → heads ≡ m.heads → numbered_too ≡ numbered → numbered_again ≡ numbered → numbers_too ≡ numbers → supports_too ≡ supports
+    → named ≡ record { things = old.things; names = old.names ++ names } → known ≡ length old.things
+    → Declares (IsNewAtom m.first_new m.fresh) named atoms_in → ((a : ℕ) → m.first_new ≤ a → a < m.first_new + m.fresh → Contains atoms_in.things (atom a))
+    → Declares (λ t. Any (λ rule. IsOfRule rule t) rules) atoms_in rules_in → Match (IsNumbered rules_in.things) rules numbered
+    → Declares (IsAtomOf heads) rules_in new → Match (IsAtomAt new.things) heads numbers → AreDeclared new.things
+    → AddsExactly s0 s1 (NewSay new.things known) → AddsExactly s1 s2 (λ n. Any (λ r. RuleSays r n) numbered_too) → AreSupports numbered_again supports
+    → AddsExactly s2 s3 (λ n. Any (λ number. HeadSays supports_too number n) numbers_too) → Completes old m s0 new s3
+extended old named atoms_in rules_in new m names rules heads numbered numbers supports numbered_too numbered_again numbers_too supports_too s0 s1 s2 s3 known
+    names_is rules_is heads_is too_is again_is numbers_is supports_is named_is count first there second paired third heads_paired are bodies says are_supports supported =
+    completes old named atoms_in rules_in new m numbered numbers supports s0 s1 s2 s3 known
+    (named_is ∙ ap (λ (ns : List ℕ). let n : Numbering = record { things = old.things; names = old.names ++ ns } in n) names_is)
+    (all_declared old named atoms_in rules_in new m numbered numbers supports first there
+    (subst (λ (rs : List GroundRule). Declares (λ t. Any (λ rule. IsOfRule rule t) rs) atoms_in rules_in) rules_is second)
+    (subst (λ (rs : List GroundRule). Match (IsNumbered rules_in.things) rs numbered) rules_is paired)
+    (subst (λ (hs : List ℕ). Declares (IsAtomOf hs) rules_in new) heads_is third) are)
+    (subst (λ (hs : List ℕ). Match (IsAtomAt new.things) hs numbers) heads_is heads_paired)
+    count bodies
+    (subst (λ (ns : List NumberedRule). AddsExactly s1 s2 (λ n. Any (λ r. RuleSays r n) ns)) too_is says)
+    (subst (λ (ns : List NumberedRule). AreSupports ns supports) again_is are_supports)
+    (subst (λ (ss : List Support). AddsExactly s2 s3 (λ n. Any (λ number. HeadSays ss number n) numbers)) supports_is
+    (subst (λ (ns : List ℕ). AddsExactly s2 s3 (λ n. Any (λ number. HeadSays supports_too number n) ns)) numbers_is supported))

@@ -174,15 +174,15 @@ body_number c d pos neg p n number first second last =
     last.at ∙ (ap (λ (x : List ℕ). Some (body (plain x n))) first ∙ ap (λ (x : List ℕ). Some (body (plain pos x))) second)
 
 -- so many new atoms, and the next one
-pub new_declared_next : (start mid new : Numbering) (first count i a number : ℕ) → i < count → a ≡ first + i → Declares (IsNewAtom first count) start mid → Numbers mid new (atom a) number
+pub new_declared_next : (start mid new : Numbering) (first count a number : ℕ) → first ≤ a → a < first + count → Declares (IsNewAtom first count) start mid → Numbers mid new (atom a) number
     → Declares (IsNewAtom first count) start new
-new_declared_next start mid new first count i a number less is before next =
+new_declared_next start mid new first count a number least less before next =
     declares_then start mid new (IsNewAtom first count) (λ u. u ≡ atom a) (IsNewAtom first count) before next.declares (λ t p. p)
-    (λ t same. subst (IsNewAtom first count) (sym same) (omega (arith, is), omega (arith, is, less)))
+    (λ t same. subst (IsNewAtom first count) (sym same) (least, less))
 
-pub new_all_next : (mid new : Numbering) (first i a number : ℕ) → a ≡ first + i → ((b : ℕ) → first ≤ b → b < first + i → Contains mid.things (atom b)) → Numbers mid new (atom a) number
-    → (b : ℕ) → first ≤ b → b < first + (i + 1) → Contains new.things (atom b)
-new_all_next mid new first i a number is before next b least less = elim (cases_eq b a) [
+pub new_all_next : (mid new : Numbering) (first a number : ℕ) → ((b : ℕ) → first ≤ b → b < a → Contains mid.things (atom b)) → Numbers mid new (atom a) number
+    → (b : ℕ) → first ≤ b → b < a + 1 → Contains new.things (atom b)
+new_all_next mid new first a number before next b least less = elim (cases_eq b a) [
   | inl same ↦ subst (λ (x : ℕ). Contains new.things (atom x)) (sym same) (some_at new.things number (atom a) next.at)
-  | inr differ ↦ keeps_member mid new (λ u. u ≡ atom a) next.declares (atom b) (before b least (omega (arith, less, is, differ)))
+  | inr differ ↦ keeps_member mid new (λ u. u ≡ atom a) next.declares (atom b) (before b least (omega (arith, less, differ)))
 ]

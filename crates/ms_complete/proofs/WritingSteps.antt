@@ -11,10 +11,13 @@ use Rattle.std.proofs.lemmas.Option.{get_or_from_slice_get, slice_get-get_or, sl
 use Rattle.ms_lits.specs.declared.lit.Lit.{Lit}
 use Rattle.ms_lits.specs.Literals.{Nogood}
 use Rattle.ms_complete.specs.declared.written.Next.TheVariants.{Greater, Equal, Opposite}
+use Rattle.ms_nogood.specs.Store.{Store, Adds}
+use Rattle.ms_complete.specs.Bases.{AddsExactly, base_of}
 use Rattle.ms_complete.specs.Next.{IsNext}
 use Rattle.ms_complete.specs.Sets.{Writes, IsByVar}
 use Rattle.ms_complete.proofs.Lists.{next_one, some_at, same_some, none_is_some, all_from}
-use Rattle.ms_complete.proofs.Writing.{Rises, same_lit, writes_same, written_none, written_known, written_new}
+use Rattle.ms_complete.proofs.Stores.{adds_none, adds_one}
+use Rattle.ms_complete.proofs.Writing.{Rises, same_lit, writes_once, writes_same, written_none, written_known, written_new}
 
 -- a member of a front stands before its end
 member_take : (xs : List Lit) (i : ℕ) (x : Lit) → Contains (take i xs) x → (k : ℕ) × (k < i) × (k < length xs) × (get_or xs k x ≡ x)
@@ -87,3 +90,17 @@ writes_permuted lits others moved nogood w =
 pub writes_moved : (lits others : List Lit) → IsPermutation lits others → (nogood : Nogood) → Writes lits nogood → Writes others nogood
 writes_moved lits others moved nogood w =
     writes_same lits others (λ x has. Contains-permutation lits others x moved has) (λ x has. Contains-permutation others lits x (IsPermutation-sym lits others moved) has) nogood w
+
+-- A nogood has different variables.
+pub different : (lits : List Lit) (nogood slice : Nogood) → slice ≡ nogood → Writes lits nogood → AllPairs (λ l m. l.var ≢ m.var) slice
+different lits nogood slice is w =
+    subst (λ (n : Nogood). AllPairs (λ l m. l.var ≢ m.var) n) (sym is) (λ i j d less within same. let below : (get_or nogood i d).var < (get_or nogood j d).var = w.rising i j d less within in omega (arith, below, same))
+
+-- what adding the nogood of a sorted set adds
+pub set_added : (lits sorted : List Lit) (nogood slice : Nogood) (key : ℕ) (old new : Store) → IsPermutation lits sorted → slice ≡ nogood → Writes sorted nogood → Adds old new (base_of slice) key → AddsExactly old new (Writes lits)
+set_added lits sorted nogood slice key old new moved is w adds =
+    adds_one old new nogood key (Writes lits) (subst (λ (n : Nogood). Adds old new (base_of n) key) is adds) (writes_permuted lits sorted moved nogood w)
+    (λ n writes. writes_once sorted n nogood (writes_moved lits sorted moved n writes) w)
+
+pub none_written : (lits sorted : List Lit) (store : Store) → IsPermutation lits sorted → ((n : Nogood) → ¬ Writes sorted n) → AddsExactly store store (Writes lits)
+none_written lits sorted store moved none = adds_none store (Writes lits) (λ n writes. none n (writes_moved lits sorted moved n writes))

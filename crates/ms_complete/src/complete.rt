@@ -97,7 +97,8 @@ impl Complete {
         self.add_bodies(known as usize, store)?;
         add_rules(self.alloc, rules.as_slice(), store)?;
         let supports = supports_of(self.alloc, rules.as_slice())?;
-        add_supports(self.alloc, heads.as_slice(), supports.as_slice(), store)
+        add_supports(self.alloc, heads.as_slice(), supports.as_slice(), store)?;
+        Ok(())
     }
 
     fn take_names(&mut self, names: &[TermId]) -> Result<(), OutOfMemory>

@@ -4,6 +4,7 @@ ghost use Rattle.ms_join.specs.Things.Thing.{atom, body};
 ghost use Rattle.ms_things.specs.Signs.{Signed, IsFor};
 ghost use Rattle.ms_things.specs.Completion.{parts_of};
 ghost use Rattle.ms_complete.specs.Keys.{plain};
+ghost use Rattle.ms_complete.specs.Numbering.{AreDeclared};
 ghost use Rattle.ms_complete.specs.Bases.{AddsExactly};
 ghost use Rattle.ms_complete.specs.Sets.{Match};
 ghost use Rattle.ms_complete.specs.Rules.{RuleSays, BodySays, PartsSay, ThingSays, NewSay, signed_atoms};
@@ -21,9 +22,11 @@ use std::alloc::Global;
 impl Complete {
     /// Adds those of the bodies from a number on.
     pub(crate) fn add_bodies(&self, known: usize, store: &mut Nogoods) -> Result<(), OutOfMemory>
-        ensures { OnOk result (AddsExactly store.old store.new (NewSay self.now.things known)) }
+        ensures adds { OnOk result (AddsExactly store.old store.new (NewSay self.now.things known)) }
+        ensures declared { AreDeclared self.now.things }
     {
-        for number in known..self.keys.len() {
+        let end = self.things() as usize;
+        for number in known..end {
             self.add_thing(number, store)?;
         }
         Ok(())
@@ -38,7 +41,8 @@ impl Complete {
             ThingKey::Atom(_) => Ok(()),
             ThingKey::Body(pos, neg) => {
                 let parts = self.parts_of(pos.as_slice(), neg.as_slice())?;
-                add_body(self.alloc, number as u32, parts, store)
+                add_body(self.alloc, number as u32, parts, store)?;
+                Ok(())
             }
         }
     }
@@ -76,7 +80,8 @@ fn add_body(alloc: Global, number: u32, mut parts: Vec<Lit>, store: &mut Nogoods
         var: number,
         truth: false,
     })?;
-    add_set(alloc, parts.as_mut_slice(), store)
+    add_set(alloc, parts.as_mut_slice(), store)?;
+    Ok(())
 }
 
 fn add_parts(alloc: Global, number: u32, parts: &[Lit], store: &mut Nogoods) -> Result<(), OutOfMemory>

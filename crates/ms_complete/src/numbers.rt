@@ -55,7 +55,8 @@ impl Complete {
         self.declare(neg)?;
         let pos = Seq::copied(self.alloc, pos)?;
         let neg = Seq::copied(self.alloc, neg)?;
-        self.number(ThingKey::Body(pos, neg))
+        let number = self.number(ThingKey::Body(pos, neg))?;
+        Ok(number)
     }
 
     fn number_head(&mut self, head: Option<AtomId>) -> Result<Option<u32>, OutOfMemory>
@@ -112,8 +113,10 @@ impl Complete {
         ensures declares { OnOk result (Declares (IsNewAtom first count) self.old self.new) }
         ensures all { OnOk result ((a : ℕ) → first ≤ a → a < first + count → Contains self.new.things (atom a)) }
     {
-        for i in 0..count {
-            let a = first.checked_add(i).ok_or(OutOfMemory)?;
+        let Some(end) = first.checked_add(count) else {
+            return Err(OutOfMemory);
+        };
+        for a in first..end {
             self.number_atom(AtomId(a))?;
         }
         Ok(())

@@ -56,7 +56,8 @@ fn add_head(alloc: Global, head: u32, supports: &[Support], store: &mut Nogoods)
 {
     let own = with_head(supports, head);
     let mut lits = lits_of(alloc, head, own)?;
-    add_set(alloc, lits.as_mut_slice(), store)
+    add_set(alloc, lits.as_mut_slice(), store)?;
+    Ok(())
 }
 
 /// The head, and the opposites of the bodies.

@@ -56,9 +56,10 @@ pub(crate) fn add_set(alloc: Global, lits: &mut [Lit], store: &mut Nogoods) -> R
     ensures { OnOk result (AddsExactly store.old store.new (Writes lits.old)) }
 {
     lits.sort_unstable_by_key(|lit| lit.var);
-    if let Some(nogood) = written(alloc, lits)? {
-        store.add(nogood.as_slice(), Kind::Base)?;
-    }
+    let Some(nogood) = written(alloc, lits)? else {
+        return Ok(());
+    };
+    store.add(nogood.as_slice(), Kind::Base)?;
     Ok(())
 }
 

@@ -1,0 +1,18 @@
+use Rattle.std.proofs.Common.{ap, subst, List, ℕ}
+use Rattle.ms_complete.specs.Numbering.{IsAtomOf}
+use Rattle.ms_complete.proofs.NumberLaws.{all_stay, body_declared, body_number, parts_there}
+use Rattle.ms_complete.proofs.complete.Complete.number_body.Goals as goal
+
+pub number-requires : goal.number-requires
+number-requires c part made =
+    parts_there c.declare-2.new.self.things c.in_ok-pos.pos c.in_ok-neg.neg
+    ? ? part made
+
+pub returns-clause-declares : goal.returns-clause-declares
+returns-clause-declares c =
+    body_declared c.args.self.now c.declare.new.self c.declare-2.new.self c.number-number.new.self c.args.pos.now c.args.neg.now c.in_ok-pos.pos c.in_ok-neg.neg c.in_ok-number.number
+    c.in_ok-pos.ensures c.in_ok-neg.ensures c.in_ok-declare.ensures.declares c.in_ok-declare-2.ensures.declares c.in_ok-number.ensures
+
+pub returns-clause-number : goal.returns-clause-number
+returns-clause-number c =
+    body_number c.declare-2.new.self c.number-number.new.self c.args.pos.now c.args.neg.now c.in_ok-pos.pos c.in_ok-neg.neg c.in_ok-number.number c.in_ok-pos.ensures c.in_ok-neg.ensures c.in_ok-number.ensures
