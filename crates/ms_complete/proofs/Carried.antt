@@ -43,7 +43,7 @@ module _ (O more N : List Thing) (is : N ≡ O ++ more) (once : AllPairs (λ t u
       let same : k ≡ lit.var = some_once N once k lit.var s.thing (stays k s.thing at) f.0 in
       (subst (λ (i : ℕ). slice_get O i ≡ Some s.thing) same at, f.1)
 
-  pub nogood_was : (signs : List Signed) → All (λ s. Contains O s.thing) signs → (n : Nogood) → IsNogoodOf N signs n → IsNogoodOf O signs n
+  pub nogood_was : (signs : List Signed) → All (λ (s : Signed). Contains O s.thing) signs → (n : Nogood) → IsNogoodOf N signs n → IsNogoodOf O signs n
   nogood_was signs each n of = record {
     rising = of.rising;
     of_set = all_from (λ lit. Any (λ s. IsFor O s lit) signs) n (λ lit has.
@@ -149,5 +149,5 @@ match_two N s t a b f g = record {
 
 -- The parts of a declared body are declared.
 pub part_atoms : (N : List Thing) (truth : Bool) (atoms : List ℕ) → ((a : ℕ) → Contains atoms a → Contains N (atom a))
-    → All (λ s. Contains N s.thing) (map (λ a. record { thing = atom a; truth = truth }) atoms)
+    → All (λ (s : Signed). Contains N s.thing) (map (λ a. record { thing = atom a; truth = truth }) atoms)
 part_atoms N truth atoms each = All-map (λ (s : Signed). Contains N s.thing) (λ a. record { thing = atom a; truth = truth }) atoms (all_from (λ a. Contains N (atom a)) atoms each)

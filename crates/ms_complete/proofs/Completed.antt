@@ -73,7 +73,7 @@ module _ (j joined : Join) (m : GroundModule) (store : Store) (old new : Numberi
   output_stays a out = record {
     within = let less : a < j.atoms = out.within in let atoms : joined.atoms ≡ j.atoms + m.fresh = is.atoms in omega (arith, less, atoms);
     no_input = λ (k, i, within, at, same). elim ((is.inputs i).0 (k, within, at)) [
-      | inl stays ↦ out.no_input (any_from (λ input. input.atom ≡ a) j.inputs i stays.0 same)
+      | inl stays ↦ out.no_input (any_from (λ (input : Input). input.atom ≡ a) j.inputs i stays.0 same)
       | inr becomes ↦ let less : a < j.atoms = out.within in let least : j.atoms ≤ i.atom = becomes.0 in absurd (omega (arith, less, least, same))
     ];
   }
@@ -86,7 +86,7 @@ module _ (j joined : Join) (m : GroundModule) (store : Store) (old new : Numberi
     | inl less ↦ record {
         within = less;
         no_input = λ (k, i, within, at, same).
-            out.no_input (any_from (λ input. input.atom ≡ a) joined.inputs i
+            out.no_input (any_from (λ (input : Input). input.atom ≡ a) joined.inputs i
             ((is.inputs i).1 (inl ((k, within, at), λ has. not_head (subst (Contains m.heads) same has)))) same);
       }
     | inr least ↦
@@ -95,7 +95,7 @@ module _ (j joined : Join) (m : GroundModule) (store : Store) (old new : Numberi
         let i : Input = record { atom = a; value = Some (declared_value m a) } in
         elim (can.well_formed.covered a least (omega (arith, less, atoms))) [
           | inl has ↦ absurd (not_head has)
-          | inr external ↦ absurd (out.no_input (any_from (λ input. input.atom ≡ a) joined.inputs i ((is.inputs i).1 (inr (least, external, not_head, refl))) refl))
+          | inr external ↦ absurd (out.no_input (any_from (λ (input : Input). input.atom ≡ a) joined.inputs i ((is.inputs i).1 (inr (least, external, not_head, refl))) refl))
         ]
   ]
 
@@ -132,22 +132,23 @@ module _ (j joined : Join) (m : GroundModule) (store : Store) (old new : Numberi
   old_body : (rule : GroundRule) → Contains j.rules rule → Contains old.things (body (body_of rule))
   old_body rule has = old_member (body (body_of rule)) (any_from (λ r. IsThingOf r (body (body_of rule))) j.rules rule has (inl refl))
 
-  parts_declared : (b : Body) → Contains old.things (body b) → All (λ s. Contains old.things s.thing) (parts_of b)
+  parts_declared : (b : Body) → Contains old.things (body b) → All (λ (s : Signed). Contains old.things s.thing) (parts_of b)
   parts_declared b has =
       let (k, at) = at_some old.things (body b) has in
-      let part_in = λ (part : Thing) (made : IsMadeOf (body b) part). let (i, less, found) = can.of.are.before k (body b) part at made in some_at old.things i part found in
-      All-append (λ (s : Signed). Contains old.things s.thing) (map (λ a. plus (atom a)) b.pos ++ map (λ a. minus (atom a)) b.neg) (map (λ s. record { thing = aggregate s.agg; truth = not s.negated }) b.aggs)
+      let part_in : (part : Thing) → IsMadeOf (body b) part → Contains old.things part =
+          λ part made. (let (i, less, found) = can.of.are.before k (body b) part at made in some_at old.things i part found) in
+      All-append (λ (s : Signed). Contains old.things s.thing) (map (λ a. plus (atom a)) b.pos ++ map (λ a. minus (atom a)) b.neg) (map (λ (s : SignedAgg). record { thing = aggregate s.agg; truth = not s.negated }) b.aggs)
       (All-append (λ (s : Signed). Contains old.things s.thing) (map (λ a. plus (atom a)) b.pos) (map (λ a. minus (atom a)) b.neg)
       (part_atoms old.things true b.pos (λ a among. part_in (atom a) (inl among)))
       (part_atoms old.things false b.neg (λ a among. part_in (atom a) (inr among))))
-      (All-map (λ (s : Signed). Contains old.things s.thing) (λ s. record { thing = aggregate s.agg; truth = not s.negated }) b.aggs
+      (All-map (λ (s : Signed). Contains old.things s.thing) (λ (s : SignedAgg). record { thing = aggregate s.agg; truth = not s.negated }) b.aggs
       (all_from (λ (s : SignedAgg). Contains old.things (aggregate s.agg)) b.aggs (λ s among. part_in (aggregate s.agg) (any_from (λ (o : SignedAgg). o.agg ≡ s.agg) b.aggs s among refl))))
 
   no_old_tuple : (t : Tuple) → ¬ IsThing j.atoms j.rules (tuple t)
   no_old_tuple t some =
       no_element j.atoms some.1 (over_old some.1 (member_of (λ rule. IsThingOf rule (tuple t)) j.rules some)) (λ g e. tuple_of g.elements e ≡ t) some.4
 
-  signs_declared : (says : Completion) → IsOf j says → All (λ s. Contains old.things s.thing) (signs_of j says)
+  signs_declared : (says : Completion) → IsOf j says → All (λ (s : Signed). Contains old.things s.thing) (signs_of j says)
   signs_declared (whole_body b) of =
       let has = old_member (body b) of in
       All-cons (λ (s : Signed). Contains old.things s.thing) (minus (body b)) (parts_of b) has (parts_declared b has)
@@ -281,19 +282,19 @@ module _ (j joined : Join) (m : GroundModule) (store : Store) (old new : Numberi
     support_match : (a number : ℕ) (own : List Support) → IsAtomAt new.things a number → AreOwn supports number own
         → Match (IsFor new.things) (plus (atom a) ∷ false_bodies (heads a) m.rules) (head_lits number own)
     support_match a number own at are_own = record {
-      each = All-cons (λ (l : Lit). Any (λ s. IsFor new.things s l) (plus (atom a) ∷ false_bodies (heads a) m.rules)) (holds number) (map (λ s. fails s.body) own)
+      each = All-cons (λ (l : Lit). Any (λ s. IsFor new.things s l) (plus (atom a) ∷ false_bodies (heads a) m.rules)) (holds number) (map (λ (s : Support). fails s.body) own)
           (any_here (λ s. IsFor new.things s (holds number)) (plus (atom a)) (false_bodies (heads a) m.rules) (at, refl))
-          (All-map (λ (l : Lit). Any (λ s. IsFor new.things s l) (plus (atom a) ∷ false_bodies (heads a) m.rules)) (λ s. fails s.body) own
+          (All-map (λ (l : Lit). Any (λ s. IsFor new.things s l) (plus (atom a) ∷ false_bodies (heads a) m.rules)) (λ (s : Support). fails s.body) own
           (all_from (λ (s : Support). Any (λ sign. IsFor new.things sign (fails s.body)) (plus (atom a) ∷ false_bodies (heads a) m.rules)) own
           (λ s has. any_later (λ sign. IsFor new.things sign (fails s.body)) (plus (atom a)) (false_bodies (heads a) m.rules) (own_rule a number own at are_own s has))));
       all = All-cons (λ (s : Signed). Any (IsFor new.things s) (head_lits number own)) (plus (atom a)) (false_bodies (heads a) m.rules)
-          (any_here (IsFor new.things (plus (atom a))) (holds number) (map (λ s. fails s.body) own) (at, refl))
+          (any_here (IsFor new.things (plus (atom a))) (holds number) (map (λ (s : Support). fails s.body) own) (at, refl))
           (All-map (λ (s : Signed). Any (IsFor new.things s) (head_lits number own)) (λ rule. minus (body (body_of rule))) (filter (heads a) m.rules)
           (all_from (λ (rule : GroundRule). Any (IsFor new.things (minus (body (body_of rule)))) (head_lits number own)) (filter (heads a) m.rules)
           (λ rule has.
           let some = rule_own a number own at are_own rule has in
-          any_later (IsFor new.things (minus (body (body_of rule)))) (holds number) (map (λ s. fails s.body) own)
-          (any_from (IsFor new.things (minus (body (body_of rule)))) (map (λ s. fails s.body) own) (fails some.1.body)
+          any_later (IsFor new.things (minus (body (body_of rule)))) (holds number) (map (λ (s : Support). fails s.body) own)
+          (any_from (IsFor new.things (minus (body (body_of rule)))) (map (λ (s : Support). fails s.body) own) (fails some.1.body)
           (member_map (λ (s : Support). fails s.body) own some.1 (member_of (λ s. IsFor new.things (minus (body (body_of rule))) (fails s.body)) own some)) some.4))));
     }
 
@@ -307,14 +308,14 @@ module _ (j joined : Join) (m : GroundModule) (store : Store) (old new : Numberi
     }
 
     own_of : ℕ → List Support
-    own_of number = filter (λ s. nat_eq s.head number) supports
+    own_of number = filter (λ (s : Support). nat_eq s.head number) supports
 
     are_own_of : (number : ℕ) → AreOwn supports number (own_of number)
     unfolding own_of
     are_own_of number s = (
-        λ has. (Contains-filtered (λ t. nat_eq t.head number) supports s has,
-            eqb→eq s.head number (All-contains (λ (t : Support). nat_eq t.head number ≡ true) (filter (λ t. nat_eq t.head number) supports) s (filter_passes (λ t. nat_eq t.head number) supports) has)),
-        λ (among, same). Contains-filter (λ t. nat_eq t.head number) supports s among (eq-eqb s.head number same))
+        λ has. (Contains-filtered (λ (t : Support). nat_eq t.head number) supports s has,
+            eqb→eq s.head number (All-contains (λ (t : Support). nat_eq t.head number ≡ true) (filter (λ (t : Support). nat_eq t.head number) supports) s (filter_passes (λ (t : Support). nat_eq t.head number) supports) has)),
+        λ (among, same). Contains-filter (λ (t : Support). nat_eq t.head number) supports s among (eq-eqb s.head number same))
 
     module _ (numbers : List ℕ) (paired : Match (IsAtomAt new.things) m.heads numbers) where
       gained_said : (n : Nogood) → NewSay new.things (length old.things) n ⊎ (Any (λ r. RuleSays r n) numbered ⊎ Any (λ number. HeadSays supports number n) numbers) → IsCompletionNogood joined new.things n

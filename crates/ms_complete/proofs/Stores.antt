@@ -1,7 +1,9 @@
 -- Adding nogoods of the program step by step.
-use Rattle.std.proofs.Common.{◌≡◌, ◌≢◌, ◌∙◌, ◌⊎◌, ℕ, Option, Some, None, refl, sym, ap, subst, inl, inr}
+use Rattle.std.proofs.Common.{◌≡◌, ◌≢◌, ◌∙◌, ◌⊎◌, ℕ, List, [], ◌∷◌, ◌++◌, Option, Some, None, refl, sym, ap, subst, inl, inr}
 use Rattle.std.specs.Prelude.{◌↔◌}
+use Rattle.std.specs.List.{Contains}
 use Rattle.std.proofs.lemmas.Bool.{cases_eq}
+use Rattle.std.proofs.lemmas.List.Elements.{Contains-append_left, Contains-push}
 use Rattle.ms_lits.specs.Literals.{Nogood}
 use Rattle.ms_nogood.specs.declared.kind.Kind.TheVariants.{Base}
 use Rattle.ms_nogood.specs.Store.{Store, Stored, Adds, slot_at}
@@ -14,6 +16,8 @@ adds_none store Is none = record {
   keeps = λ key stored is. is;
   each = λ key stored is. inl is;
   all = λ nogood is. absurd (none nogood is);
+  given = λ key stored is. inl is;
+  fresh = λ key has. has;
   kept = refl;
 }
 
@@ -33,6 +37,14 @@ adds_then a b c P Q R first second cases left right = record {
     | inl p ↦ let (key, is) = first.all nogood p in (key, second.keeps key (base_of nogood) is)
     | inr q ↦ second.all nogood q
   ];
+  given = λ key stored is. elim (second.given key stored is) [
+    | inl before ↦ elim (first.given key stored before) [
+      | inl old ↦ inl old
+      | inr has ↦ inr (second.fresh key has)
+    ]
+    | inr has ↦ inr has
+  ];
+  fresh = λ key has. second.fresh key (first.fresh key has);
   kept = second.kept ∙ first.kept;
 }
 
@@ -44,6 +56,8 @@ adds_same a b P Q adds forth back = record {
     | inr (nogood, same, p) ↦ inr (nogood, same, forth nogood p)
   ];
   all = λ nogood q. adds.all nogood (back nogood q);
+  given = adds.given;
+  fresh = adds.fresh;
   kept = adds.kept;
 }
 
@@ -60,6 +74,11 @@ adds_one old new nogood key Is adds is only = record {
     | inr differ ↦ inl (sym (adds.others k differ) ∙ at)
   ];
   all = λ n of. (key, adds.added ∙ ap (λ (m : Nogood). Some (base_of m)) (sym (only n of)));
+  given = λ k stored at. elim (cases_eq k key) [
+    | inl same ↦ inr (subst (λ (ks : List ℕ). Contains ks k) (sym adds.fresh) (subst (Contains (old.fresh ++ key ∷ [])) (sym same) (Contains-push old.fresh key)))
+    | inr differ ↦ inl (sym (adds.others k differ) ∙ at)
+  ];
+  fresh = λ k has. subst (λ (ks : List ℕ). Contains ks k) (sym adds.fresh) (Contains-append_left old.fresh (key ∷ []) k has);
   kept = adds.kept;
 }
 
@@ -70,6 +89,8 @@ keeps_keys old new Is adds = record {
     | inl before ↦ inl before
     | inr (nogood, same, p) ↦ inr (ap (λ (s : Stored). s.kind) same)
   ];
+  given = adds.given;
+  fresh = adds.fresh;
   kept = adds.kept;
 }
 

@@ -41,7 +41,7 @@ plain_is n rule over = ap (λ (aggs : List SignedAgg). let b : Body = record { p
 
 pub no_aggregate : (n : ℕ) (rule : GroundRule) → IsRuleOver n rule → (Is : GroundAgg → Type 0) → ¬ AnyAggregate Is rule
 no_aggregate n rule over Is some =
-    any_none (λ (s : SignedAgg). Is s.agg) (subst (λ (aggs : List SignedAgg). Any (λ s. Is s.agg) aggs) over.plain some)
+    any_none (λ (s : SignedAgg). Is s.agg) (subst (λ (aggs : List SignedAgg). Any (λ (s : SignedAgg). Is s.agg) aggs) over.plain some)
 
 pub no_element : (n : ℕ) (rule : GroundRule) → IsRuleOver n rule → (Is : GroundAgg → GroundElement → Type 0) → ¬ AnyElement Is rule
 no_element n rule over Is some = no_aggregate n rule over (λ g. Any (Is g) g.elements) some

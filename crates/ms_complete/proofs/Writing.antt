@@ -107,14 +107,14 @@ written_known lits nogood x w has = record {
   all = All-push (Contains nogood) lits x w.all has;
 }
 
-rising_push : (nogood : Nogood) (x : Lit) → AllPairs Rises nogood → All (λ l. l.var < x.var) nogood → AllPairs Rises (nogood ++ x ∷ [])
+rising_push : (nogood : Nogood) (x : Lit) → AllPairs Rises nogood → All (λ (l : Lit). l.var < x.var) nogood → AllPairs Rises (nogood ++ x ∷ [])
 rising_push [] x rising below = AllPairs-cons Rises x [] (All-nil (Rises x)) rising
 rising_push (y ∷ ys) x rising below =
     AllPairs-cons Rises y (ys ++ x ∷ [])
     (All-push (Rises y) ys x (rises_head y ys rising) (All-head (λ (l : Lit). l.var < x.var) y ys below))
     (rising_push ys x (rises_tail y ys rising) (All-tail (λ (l : Lit). l.var < x.var) y ys below))
 
-pub written_new : (lits : List Lit) (nogood : Nogood) (x : Lit) → Writes lits nogood → All (λ l. l.var < x.var) nogood → Writes (lits ++ x ∷ []) (nogood ++ x ∷ [])
+pub written_new : (lits : List Lit) (nogood : Nogood) (x : Lit) → Writes lits nogood → All (λ (l : Lit). l.var < x.var) nogood → Writes (lits ++ x ∷ []) (nogood ++ x ∷ [])
 written_new lits nogood x w below = record {
   rising = rising_push nogood x w.rising below;
   each = all_from (Contains (lits ++ x ∷ [])) (nogood ++ x ∷ []) (λ y has. elim (Contains-push_cases nogood x y has) [

@@ -30,7 +30,7 @@ pub front_member : (xs : List Lit) (i : ℕ) (x : Lit) → Contains (take i xs) 
 front_member xs i x has = let (k, less, within, is) = member_take xs i x has in (k, within, is)
 
 -- None is above the last of a rising list.
-last_greatest : (nogood : Nogood) (last : Lit) → AllPairs Rises nogood → slice_get nogood (length nogood - 1) ≡ Some last → All (λ l. l.var ≤ last.var) nogood
+last_greatest : (nogood : Nogood) (last : Lit) → AllPairs Rises nogood → slice_get nogood (length nogood - 1) ≡ Some last → All (λ (l : Lit). l.var ≤ last.var) nogood
 last_greatest nogood last rising at k d within =
     let end_is : get_or nogood (length nogood - 1) d ≡ last = get_or_from_slice_get nogood (length nogood - 1) last d at in
     let var : (get_or nogood (length nogood - 1) d).var ≡ last.var = ap (λ (l : Lit). l.var) end_is in
@@ -47,8 +47,8 @@ last_greatest nogood last rising at k d within =
 
 module _ (lits : List Lit) (i : ℕ) (nogood : Nogood) (lit : Lit) (within : i < length lits) (here : lit ≡ get_or lits i lit) (sorted : IsByVar lits) (w : Writes (take i lits) nogood) where
   -- none of the literals so far is above the next one
-  none_above : All (λ l. l.var ≤ lit.var) nogood
-  none_above = all_from (λ l. l.var ≤ lit.var) nogood (λ l has.
+  none_above : All (λ (l : Lit). l.var ≤ lit.var) nogood
+  none_above = all_from (λ (l : Lit). l.var ≤ lit.var) nogood (λ l has.
       let (k, less, inside, is) = member_take lits i l (All-contains (Contains (take i lits)) nogood l w.each has) in
       let up_to : k ≤ i = omega (arith, less) in
       let order : (get_or lits k l).var ≤ (get_or lits i l).var = sorted k i l up_to within in
