@@ -1,7 +1,8 @@
 -- Nogoods of old things among more, rules by their heads, and literals for signed things.
-use Rattle.std.proofs.Common.{◌≡◌, ◌≢◌, ◌∙◌, ◌⊎◌, ◌+◌, ◌<◌, ◌≤◌, ℕ, zero, suc, Bool, true, false, nat_eq, not, List, [], ◌∷◌, ◌++◌, Option, Some, None, map, length, refl, sym, ap, subst, inl, inr, arith, eq-eqb, eqb→eq}
+use Rattle.std.proofs.Common.{◌≡◌, ◌≢◌, ◌∙◌, ◌⊎◌, ◌+◌, ◌<◌, ◌≤◌, ℕ, zero, suc, Bool, true, false, nat_eq, not, List, [], ◌∷◌, ◌++◌, Option, Some, None, map, length, refl, sym, ap, subst, inl, inr, arith, eq-eqb}
 use Rattle.std.specs.Prelude.{slice_get, IfSome, ◌↔◌}
 use Rattle.std.specs.List.{All, AllPairs, Any, Contains, filter}
+use Rattle.std.proofs.lemmas.Bool.Decides.{Decides-eqb}
 use Rattle.std.proofs.lemmas.Bool.{cond-false, false≢true, false_from_ne_true}
 use Rattle.std.proofs.lemmas.List.{append-nil, get_or_append_left, map-append}
 use Rattle.std.proofs.lemmas.List.Elements.{All-append, All-cons, All-contains, All-nil, All-map, Contains-append_cases, Contains-append_left, Contains-append_right, filter-append, filter_passes}
@@ -72,7 +73,7 @@ heads a rule = has_head_in (nat_eq a) rule.head
 
 pub has_head : (a : ℕ) (head : Option ℕ) → has_head_in (nat_eq a) head ≡ true → head ≡ Some a
 has_head a None e = absurd (false≢true e)
-has_head a (Some h) e = ap Some (sym (eqb→eq a h e))
+has_head a (Some h) e = ap Some (sym ((Decides-eqb a h).0 e))
 
 pub head_is : (a : ℕ) (head : Option ℕ) → head ≡ Some a → has_head_in (nat_eq a) head ≡ true
 head_is a head e = subst (λ (o : Option ℕ). has_head_in (nat_eq a) o ≡ true) (sym e) (eq-eqb a a refl)
@@ -149,5 +150,5 @@ match_two N s t a b f g = record {
 
 -- The parts of a declared body are declared.
 pub part_atoms : (N : List Thing) (truth : Bool) (atoms : List ℕ) → ((a : ℕ) → Contains atoms a → Contains N (atom a))
-    → All (λ (s : Signed). Contains N s.thing) (map (λ a. record { thing = atom a; truth = truth }) atoms)
+    → All {X = Signed} (λ (s : Signed). Contains N s.thing) (map (λ a. record { thing = atom a; truth = truth }) atoms)
 part_atoms N truth atoms each = All-map (λ (s : Signed). Contains N s.thing) (λ a. record { thing = atom a; truth = truth }) atoms (all_from (λ a. Contains N (atom a)) atoms each)

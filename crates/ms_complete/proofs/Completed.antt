@@ -1,7 +1,8 @@
 -- What taking a module does to the nogoods of the program: they are the completion nogoods of the new join.
-use Rattle.std.proofs.Common.{◌≡◌, ◌≢◌, ◌∙◌, ◌⊎◌, ◌+◌, ◌<◌, ◌≤◌, ℕ, Bool, true, false, not, nat_eq, eq-eqb, eqb→eq, suc, List, [], ◌∷◌, ◌++◌, Option, Some, None, map, length, refl, sym, ap, subst, inl, inr, arith}
+use Rattle.std.proofs.Common.{◌≡◌, ◌≢◌, ◌∙◌, ◌⊎◌, ◌+◌, ◌<◌, ◌≤◌, ℕ, Bool, true, false, not, nat_eq, eq-eqb, suc, List, [], ◌∷◌, ◌++◌, Option, Some, None, map, length, refl, sym, ap, subst, inl, inr, arith}
 use Rattle.std.specs.Prelude.{slice_get, IfSome, ◌↔◌}
 use Rattle.std.specs.List.{All, AllPairs, Any, Contains, filter}
+use Rattle.std.proofs.lemmas.Bool.Decides.{Decides-eqb}
 use Rattle.std.proofs.lemmas.Bool.{cases_eq, cases_lt, false≢true}
 use Rattle.std.proofs.lemmas.List.{append-nil}
 use Rattle.std.proofs.lemmas.List.Elements.{All-append, All-cons, All-contains, All-nil, All-map, Contains-append_cases, filter-append, filter_passes}
@@ -314,7 +315,7 @@ module _ (j joined : Join) (m : GroundModule) (store : Store) (old new : Numberi
     unfolding own_of
     are_own_of number s = (
         λ has. (Contains-filtered (λ (t : Support). nat_eq t.head number) supports s has,
-            eqb→eq s.head number (All-contains (λ (t : Support). nat_eq t.head number ≡ true) (filter (λ (t : Support). nat_eq t.head number) supports) s (filter_passes (λ (t : Support). nat_eq t.head number) supports) has)),
+            (Decides-eqb s.head number).0 (All-contains (λ (t : Support). nat_eq t.head number ≡ true) (filter (λ (t : Support). nat_eq t.head number) supports) s (filter_passes (λ (t : Support). nat_eq t.head number) supports) has)),
         λ (among, same). Contains-filter (λ (t : Support). nat_eq t.head number) supports s among (eq-eqb s.head number same))
 
     module _ (numbers : List ℕ) (paired : Match (IsAtomAt new.things) m.heads numbers) where

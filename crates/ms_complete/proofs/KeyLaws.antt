@@ -1,11 +1,12 @@
 -- Keys and the things that they stand for.
-use Rattle.std.proofs.Common.{◌≡◌, ◌≢◌, ◌∙◌, ◌⊎◌, ◌+◌, ◌<◌, ℕ, zero, suc, Bool, true, false, ◌&&◌, nat_eq, if◌then◌else◌, List, [], ◌∷◌, ◌++◌, Option, Some, None, map, length, get_or, refl, sym, ap, subst, inl, inr, arith, eq-eqb, eqb→eq}
+use Rattle.std.proofs.Common.{◌≡◌, ◌≢◌, ◌∙◌, ◌⊎◌, ◌+◌, ◌<◌, ℕ, zero, suc, Bool, true, false, ◌&&◌, nat_eq, if◌then◌else◌, List, [], ◌∷◌, ◌++◌, Option, Some, None, map, length, get_or, refl, sym, ap, subst, inl, inr, arith, eq-eqb}
 use Rattle.std.specs.Prelude.{slice_get, is_some}
 use Rattle.std.specs.List.{Any, AllPairs, Contains, IsDistinct, list_any, position}
 use Rattle.std.specs.Cmp.Lexicographic.{pointwise}
+use Rattle.std.proofs.lemmas.Bool.Decides.{Decides-eqb}
 use Rattle.std.proofs.lemmas.Bool.{and_parts, false≢true}
 use Rattle.std.proofs.lemmas.Slice.Eq.{bytes_eq-Decides}
-use Rattle.std.proofs.lemmas.List.{map-append}
+use Rattle.std.proofs.lemmas.List.{length-map, map-append}
 use Rattle.std.proofs.lemmas.Option.{slice_get-get_or}
 use Rattle.std.proofs.lemmas.List.Elements.{All-from_recursion, All-map, All-weaker}
 use Rattle.std.proofs.lemmas.List.Folds.{Any-from_list_any, list_any-from_Any}
@@ -32,7 +33,7 @@ both_true true false p q = q
 both_true false y p q = p
 
 same_from_eq : (a b : ThingKey) → key_eq a b ≡ true → thing_in a ≡ thing_in b
-same_from_eq (Atom a) (Atom b) e = ap atom (eqb→eq a b e)
+same_from_eq (Atom a) (Atom b) e = ap atom ((Decides-eqb a b).0 e)
 same_from_eq (Atom a) (BodyKey q m) e = absurd (false≢true e)
 same_from_eq (BodyKey p n) (Atom b) e = absurd (false≢true e)
 same_from_eq (BodyKey p n) (BodyKey q m) e =
@@ -135,3 +136,11 @@ pub key_of_body : (keys : List ThingKey) (b : Body) (pos neg : List ℕ) → Con
 key_of_body keys b pos neg has first second =
     let (k, among, same) = member_map_cases thing_in keys (body b) has in
     ap (λ (x : List ℕ). body (plain x neg)) first ∙ (ap (λ (x : List ℕ). body (plain b.pos x)) second ∙ ap body (plain_thing k b same))
+
+-- the thing of the key in a place
+pub at_key : (keys slice : List ThingKey) (number : ℕ) (k key : ThingKey) → slice ≡ keys → number < length (map thing_in keys) → k ≡ get_or slice number k → k ≡ key → slice_get (map thing_in keys) number ≡ Some (thing_in key)
+at_key keys slice number k key slice_is within is same =
+    let long : length (map thing_in keys) ≡ length keys = length-map keys thing_in in
+    let inside : number < length keys = omega (arith, within, long) in
+    at_map thing_in keys number (get_or keys number k) (slice_get-get_or keys number k inside)
+    ∙ ap (λ (x : ThingKey). Some (thing_in x)) (ap (λ (ks : List ThingKey). get_or ks number k) (sym slice_is) ∙ (sym is ∙ same))

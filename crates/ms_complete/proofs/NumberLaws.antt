@@ -4,7 +4,7 @@ use Rattle.std.specs.Prelude.{slice_get, IfSome}
 use Rattle.std.specs.List.{All, AllPairs, Any, Contains}
 use Rattle.std.proofs.lemmas.List.Elements.{All-append, All-nil, All-push, All-weaker, All-cons, All-contains, Contains-append_left, Contains-push}
 use Rattle.std.proofs.lemmas.Bool.{cases_eq}
-use Rattle.std.proofs.lemmas.List.{append-nil}
+use Rattle.std.proofs.lemmas.List.{append-nil, length_push}
 use Rattle.std.proofs.lemmas.Option.{slice_get_within}
 use Rattle.ms_join.specs.declared.aggregate.SignedAgg.{SignedAgg}
 use Rattle.ms_join.specs.declared.ground_rule.GroundRule.{GroundRule}
@@ -185,4 +185,14 @@ pub new_all_next : (mid new : Numbering) (first a number : ℕ) → ((b : ℕ) �
 new_all_next mid new first a number before next b least less = elim (cases_eq b a) [
   | inl same ↦ subst (λ (x : ℕ). Contains new.things (atom x)) (sym same) (some_at new.things number (atom a) next.at)
   | inr differ ↦ keeps_member mid new (λ u. u ≡ atom a) next.declares (atom b) (before b least (omega (arith, less, differ)))
+]
+
+-- there is a number for one thing more
+pub few_after : (old new : List Thing) (t : Thing) → ((Contains old t × (new ≡ old)) ⊎ ((¬ Contains old t) × (new ≡ old ++ t ∷ []))) → length old < 4294967295 → length new < 2 ^ 32
+few_after old new t cases few = elim cases [
+  | inl there ↦ let same : length new ≡ length old = ap (λ (ts : List Thing). length ts) there.1 in omega (arith, few, same)
+  | inr fresh ↦
+      let same : length new ≡ length (old ++ t ∷ []) = ap (λ (ts : List Thing). length ts) fresh.1 in
+      let more : length (old ++ t ∷ []) ≡ length old + 1 = length_push old t in
+      omega (arith, few, same, more)
 ]

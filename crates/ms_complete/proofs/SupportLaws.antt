@@ -4,7 +4,7 @@ use Rattle.std.specs.Prelude.{◌↔◌}
 use Rattle.std.specs.List.{Any, Contains}
 use Rattle.std.specs.List.Sorted.{IsPermutation}
 use Rattle.std.proofs.lemmas.Bool.{cases_lt}
-use Rattle.std.proofs.lemmas.List.{get_or-drop, get_or-take, length-drop, length-take, map-append}
+use Rattle.std.proofs.lemmas.List.{get_or_default, get_or-drop, get_or-take, length-drop, length-take, map-append}
 use Rattle.std.proofs.lemmas.List.Elements.{Contains-append_left, Contains-push, Contains-push_cases}
 use Rattle.std.proofs.lemmas.List.Sorted.{Contains-permutation, IsPermutation-sym}
 use Rattle.ms_complete.specs.declared.key.NumberedRule.{NumberedRule}
@@ -131,3 +131,22 @@ head_added supports head own lits old new are is adds =
     adds_same old new (Writes (head_lits head own)) (HeadSays supports head) (subst (λ (ls : List Lit). AddsExactly old new (Writes ls)) is adds)
     (λ n writes. (own, are, writes))
     (λ n (other, also, writes). writes_same (head_lits head other) (head_lits head own) (λ x has. own_members supports head own other are also x has) (λ x has. own_members supports head other own also are x has) n writes)
+
+-- the supports of the rules of a loop and of the next one
+pub supports_same_at : (rules : List NumberedRule) (supports : List Support) (i : ℕ) (d : NumberedRule) → i < length rules → (get_or rules i d).head ≡ None → AreSupports (take i rules) supports
+    → AreSupports (take (i + 1) rules) supports
+supports_same_at rules supports i d within is are =
+    subst (λ (rs : List NumberedRule). AreSupports rs supports) (sym (next_one rules i (get_or rules i d) within (get_or_default rules i d (get_or rules i d) within)))
+    (supports_same (take i rules) (get_or rules i d) supports is are)
+
+pub supports_more_at : (rules : List NumberedRule) (supports nexts : List Support) (i : ℕ) (d : NumberedRule) (h : ℕ) → i < length rules → (get_or rules i d).head ≡ Some h → AreSupports (take i rules) supports
+    → nexts ≡ supports ++ record { head = h; body = (get_or rules i d).body } ∷ [] → AreSupports (take (i + 1) rules) nexts
+supports_more_at rules supports nexts i d h within is are pushed =
+    subst (λ (ss : List Support). AreSupports (take (i + 1) rules) ss) (sym pushed)
+    (subst (λ (rs : List NumberedRule). AreSupports rs (supports ++ record { head = h; body = (get_or rules i d).body } ∷ [])) (sym (next_one rules i (get_or rules i d) within (get_or_default rules i d (get_or rules i d) within)))
+    (supports_more (take i rules) (get_or rules i d) supports h is are))
+
+pub lits_next_at : (head : ℕ) (own : List Support) (lits nexts : List Lit) (i : ℕ) (d : Support) → i < length own → lits ≡ head_lits head (take i own)
+    → nexts ≡ lits ++ fails (get_or own i d).body ∷ [] → nexts ≡ head_lits head (take (i + 1) own)
+lits_next_at head own lits nexts i d within before pushed = lits_next head own lits nexts i (get_or own i d) within (get_or_default own i d (get_or own i d) within) before pushed
+

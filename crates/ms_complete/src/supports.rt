@@ -18,11 +18,12 @@ pub(crate) fn supports_of(alloc: Global, rules: &[NumberedRule]) -> Result<Vec<S
 {
     let mut supports = Vec::with_capacity(alloc, rules.len())?;
     for rule in rules {
-        if let Some(head) = rule.head {
-            supports.push(Support {
+        match rule.head {
+            None => (),
+            Some(head) => supports.push(Support {
                 head,
                 body: rule.body,
-            })?;
+            })?,
         }
     }
     supports.sort_unstable_by_key(|s| s.head);

@@ -18,7 +18,7 @@ enum Next {
 }
 
 fn next_to(last: Option<&Lit>, lit: Lit) -> Next
-    ensures { IsNext (option_copied last) lit result }
+    ensures { IsNext (option_copied last.entry) lit result }
 {
     match last {
         None => Next::Greater,
@@ -56,11 +56,13 @@ pub(crate) fn add_set(alloc: Global, lits: &mut [Lit], store: &mut Nogoods) -> R
     ensures { OnOk result (AddsExactly store.old store.new (Writes lits.old)) }
 {
     lits.sort_unstable_by_key(|lit| lit.var);
-    let Some(nogood) = written(alloc, lits)? else {
-        return Ok(());
-    };
-    store.add(nogood.as_slice(), Kind::Base)?;
-    Ok(())
+    match written(alloc, lits)? {
+        None => Ok(()),
+        Some(nogood) => {
+            store.add(nogood.as_slice(), Kind::Base)?;
+            Ok(())
+        }
+    }
 }
 
 /// Adds the nogood of two literals.

@@ -1,7 +1,5 @@
-use Rattle.std.proofs.Common.{get_or}
-use Rattle.std.proofs.lemmas.List.{get_or_default}
 use Rattle.ms_complete.specs.Rules.{HeadSays}
-use Rattle.ms_complete.proofs.Adding.{none_added, one_added, all_added}
+use Rattle.ms_complete.proofs.Adding.{none_added, one_added_at, all_added}
 use Rattle.ms_complete.proofs.supports.add_supports.Goals as goal
 
 pub loop-head-init : goal.loop-head-init
@@ -11,7 +9,7 @@ pub loop-head-preserved : goal.loop-head-preserved
 loop-head-preserved c =
     let heads = c.args.heads.now in
     let i = c.loop-head.head-index in
-    one_added (HeadSays c.args.supports.now) heads i (get_or heads i 0) c.args.store.now c.loop-head.store c.add_head.new.store c.loop-head-test.true (get_or_default heads i 0 (get_or heads i 0) c.loop-head-test.true)
+    one_added_at (HeadSays c.args.supports.now) heads i 0 c.args.store.now c.loop-head.store c.add_head.new.store c.loop-head-test.true
     c.loop-head.invariant c.in_ok-add_head.ensures
 
 pub returns : goal.returns

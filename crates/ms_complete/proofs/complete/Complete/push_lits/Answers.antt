@@ -9,8 +9,8 @@ use Rattle.ms_complete.specs.Sets.{Match}
 use Rattle.ms_complete.proofs.BodyLaws.{signs_next}
 use Rattle.ms_complete.proofs.complete.Complete.push_lits.Goals as goal
 
-pub thing_of-requires : goal.thing_of-requires
-thing_of-requires c = All-contains (λ a. Contains c.args.self.now.things (atom a)) c.args.atoms.now c.a-item.result c.requires (c.loop-a.a-index, c.loop-a-test.true, sym c.a-item.is)
+pub thing_of-var-requires : goal.thing_of-var-requires
+thing_of-var-requires c = All-contains (λ a. Contains c.args.self.now.things (atom a)) c.args.atoms.now c.a-item.result c.requires (c.loop-a.a-index, c.loop-a-test.true, sym c.a-item.is)
 
 pub loop-a-init : goal.loop-a-init
 loop-a-init c signs paired = subst (λ (ss : List Signed). Match (IsFor c.args.self.now.things) ss c.args.lits.now.items) (sym (append-nil signs)) paired
