@@ -1,9 +1,10 @@
 -- Supports of heads.
-use Rattle.std.proofs.Common.{◌≡◌, ◌∙◌, ◌⊎◌, ◌+◌, ◌-◌, ◌<◌, ◌≤◌, ℕ, min, map, List, [], ◌∷◌, ◌++◌, Option, Some, None, take, drop, length, get_or, refl, sym, ap, subst, inl, inr, arith}
+use Rattle.std.proofs.Common.{leb, ltb, leb-true, le-leb, ◌≡◌, ◌∙◌, ◌⊎◌, ◌+◌, ◌-◌, ◌<◌, ◌≤◌, ℕ, min, map, Bool, true, false, List, [], ◌∷◌, ◌++◌, Option, Some, None, take, drop, length, get_or, refl, sym, ap, subst, inl, inr, arith}
 use Rattle.std.specs.Prelude.{◌↔◌}
 use Rattle.std.specs.List.{Any, Contains}
-use Rattle.std.specs.List.Sorted.{IsPermutation}
-use Rattle.std.proofs.lemmas.Bool.{cases_lt}
+use Rattle.std.specs.List.Sorted.{IsPermutation, IsPartitionPoint}
+use Rattle.std.proofs.lemmas.Bool.{cases_lt, false≢true}
+use Rattle.std.proofs.lemmas.Bool.Decides.{Decides-ltb}
 use Rattle.std.proofs.lemmas.List.{get_or_default, get_or-drop, get_or-take, length-drop, length-take, map-append}
 use Rattle.std.proofs.lemmas.List.Elements.{Contains-append_left, Contains-push, Contains-push_cases}
 use Rattle.std.proofs.lemmas.List.Sorted.{Contains-permutation, IsPermutation-sym}
@@ -150,3 +151,36 @@ pub lits_next_at : (head : ℕ) (own : List Support) (lits nexts : List Lit) (i 
     → nexts ≡ lits ++ fails (get_or own i d).body ∷ [] → nexts ≡ head_lits head (take (i + 1) own)
 lits_next_at head own lits nexts i d within before pushed = lits_next head own lits nexts i (get_or own i d) within (get_or_default own i d (get_or own i d) within) before pushed
 
+
+lt_false : (a b : ℕ) → ltb a b ≡ false → b ≤ a
+lt_false a b e = elim (cases_lt a b) [
+  | inl less ↦ absurd (false≢true (sym e ∙ (Decides-ltb a b).1 less))
+  | inr order ↦ order
+]
+
+le_false : (a b : ℕ) → leb a b ≡ false → b < a
+le_false a b e = elim (cases_lt b a) [
+  | inl less ↦ less
+  | inr order ↦ absurd (false≢true (sym e ∙ le-leb a b order))
+]
+
+-- the same by the places where the tests of the heads turn
+module _ (supports : List Support) (head first end : ℕ) (low : IsPartitionPoint (λ (s : Support). ltb s.head head ≡ true) (λ (s : Support). ltb s.head head ≡ false) supports first)
+    (high : IsPartitionPoint (λ (s : Support). leb s.head head ≡ true) (λ (s : Support). leb s.head head ≡ false) supports end) where
+  below_first : (k : ℕ) (d : Support) → k < first → (get_or supports k d).head < head
+  below_first k d less = (Decides-ltb (get_or supports k d).head head).0 (low.0 k d (omega arith) less)
+
+  from_first : (k : ℕ) (d : Support) → first ≤ k → k < length supports → head ≤ (get_or supports k d).head
+  from_first k d least within = lt_false (get_or supports k d).head head (low.1 k d least within)
+
+  below_end : (k : ℕ) (d : Support) → k < end → (get_or supports k d).head ≤ head
+  below_end k d less = leb-true (get_or supports k d).head head (high.0 k d (omega arith) less)
+
+  from_end : (k : ℕ) (d : Support) → end ≤ k → k < length supports → head < (get_or supports k d).head
+  from_end k d least within = le_false (get_or supports k d).head head (high.1 k d least within)
+
+  pub range_order : first ≤ length supports → first ≤ end
+  range_order within = in_order supports head first end below_first from_first below_end from_end within
+
+  pub range_own : end ≤ length supports → (s : Support) → Contains (take (end - first) (drop first supports)) s ↔ (Contains supports s × (s.head ≡ head))
+  range_own within s = own_part supports head first end below_first from_first below_end from_end within s

@@ -104,3 +104,6 @@ set_added lits sorted nogood slice key old new moved is w adds =
 
 pub none_written : (lits sorted : List Lit) (store : Store) → IsPermutation lits sorted → ((n : Nogood) → ¬ Writes sorted n) → AddsExactly store store (Writes lits)
 none_written lits sorted store moved none = adds_none store (Writes lits) (λ n writes. none n (writes_moved lits sorted moved n writes))
+
+pub nothing_written : Writes [] []
+nothing_written = record { rising = λ i j d less within. absurd (omega (arith, within)); each = All-nil (Contains []); all = All-nil (Contains []) }
