@@ -111,9 +111,9 @@ signs_next things truth atoms signs lits nexts i a var within is at before pushe
     let sign : Signed = record { thing = atom a; truth = truth } in
     let lit : Lit = record { var = var; truth = truth } in
     let more : signed_atoms truth (take (i + 1) atoms) ≡ signed_atoms truth (take i atoms) ++ sign ∷ [] =
-        ap (signed_atoms truth) (next_one atoms i a within is) ∙ map-append (λ (b : ℕ). let s : Signed = record { thing = atom b; truth = truth } in s) (take i atoms) (a ∷ []) in
+    ap (signed_atoms truth) (next_one atoms i a within is) ∙ map-append (λ (b : ℕ). let s : Signed = record { thing = atom b; truth = truth } in s) (take i atoms) (a ∷ []) in
     let all : (signs ++ signed_atoms truth (take i atoms)) ++ sign ∷ [] ≡ signs ++ signed_atoms truth (take (i + 1) atoms) =
-        append_assoc signs (signed_atoms truth (take i atoms)) (sign ∷ []) ∙ ap (λ (ss : List Signed). signs ++ ss) (sym more) in
+    append_assoc signs (signed_atoms truth (take i atoms)) (sign ∷ []) ∙ ap (λ (ss : List Signed). signs ++ ss) (sym more) in
     subst (λ (ls : List Lit). Match (IsFor things) (signs ++ signed_atoms truth (take (i + 1) atoms)) ls) (sym pushed)
     (subst (λ (ss : List Signed). Match (IsFor things) ss (lits ++ lit ∷ [])) all
     (match_push (IsFor things) (IsFor things) (λ s l f. f) (signs ++ signed_atoms truth (take i atoms)) lits sign lit before (at, refl)))

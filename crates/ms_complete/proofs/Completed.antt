@@ -85,11 +85,11 @@ module _ (j joined : Join) (m : GroundModule) (store : Store) (old new : Numberi
   output_was : (a : ℕ) → (¬ Contains m.heads a) → IsOutput joined a → IsOutput j a
   output_was a not_head out = elim (cases_lt a j.atoms) [
     | inl less ↦ record {
-        within = less;
-        no_input = λ (k, i, within, at, same).
-            out.no_input (any_from (λ (input : Input). input.atom ≡ a) joined.inputs i
-            ((is.inputs i).1 (inl ((k, within, at), λ has. not_head (subst (Contains m.heads) same has)))) same);
-      }
+      within = less;
+      no_input = λ (k, i, within, at, same).
+          out.no_input (any_from (λ (input : Input). input.atom ≡ a) joined.inputs i
+          ((is.inputs i).1 (inl ((k, within, at), λ has. not_head (subst (Contains m.heads) same has)))) same);
+    }
     | inr least ↦
         let atoms : joined.atoms ≡ j.atoms + m.fresh = is.atoms in
         let less : a < joined.atoms = out.within in
@@ -137,7 +137,7 @@ module _ (j joined : Join) (m : GroundModule) (store : Store) (old new : Numberi
   parts_declared b has =
       let (k, at) = at_some old.things (body b) has in
       let part_in : (part : Thing) → IsMadeOf (body b) part → Contains old.things part =
-          λ part made. (let (i, less, found) = can.of.are.before k (body b) part at made in some_at old.things i part found) in
+      λ part made. (let (i, less, found) = can.of.are.before k (body b) part at made in some_at old.things i part found) in
       All-append (λ (s : Signed). Contains old.things s.thing) (map (λ a. plus (atom a)) b.pos ++ map (λ a. minus (atom a)) b.neg) (map (λ (s : SignedAgg). record { thing = aggregate s.agg; truth = not s.negated }) b.aggs)
       (All-append (λ (s : Signed). Contains old.things s.thing) (map (λ a. plus (atom a)) b.pos) (map (λ a. minus (atom a)) b.neg)
       (part_atoms old.things true b.pos (λ a among. part_in (atom a) (inl among)))
@@ -244,10 +244,10 @@ module _ (j joined : Join) (m : GroundModule) (store : Store) (old new : Numberi
                   (head_match_signs rule r h normal.number has num at) n normal.writes;
             }
         | inr constraint ↦ record {
-            says = broken rule;
-            of_join = (new_rule rule has, sym num.kind ∙ constraint.0);
-            is = nogood_from new.things (plus (body (body_of rule)) ∷ []) (holds r.body ∷ []) (body_match_signs rule r has num) n constraint.1;
-          }
+          says = broken rule;
+          of_join = (new_rule rule has, sym num.kind ∙ constraint.0);
+          is = nogood_from new.things (plus (body (body_of rule)) ∷ []) (holds r.body ∷ []) (body_match_signs rule r has num) n constraint.1;
+        }
       ]
 
   module _ (supports : List Support) (are_supports : AreSupports numbered supports) where
@@ -314,9 +314,12 @@ module _ (j joined : Join) (m : GroundModule) (store : Store) (old new : Numberi
     are_own_of : (number : ℕ) → AreOwn supports number (own_of number)
     unfolding own_of
     are_own_of number s = (
-        λ has. (Contains-filtered (λ (t : Support). nat_eq t.head number) supports s has,
-            (Decides-eqb s.head number).0 (All-contains (λ (t : Support). nat_eq t.head number ≡ true) (filter (λ (t : Support). nat_eq t.head number) supports) s (filter_passes (λ (t : Support). nat_eq t.head number) supports) has)),
-        λ (among, same). Contains-filter (λ (t : Support). nat_eq t.head number) supports s among (eq-eqb s.head number same))
+      λ has. (
+        Contains-filtered (λ (t : Support). nat_eq t.head number) supports s has,
+        (Decides-eqb s.head number).0 (All-contains (λ (t : Support). nat_eq t.head number ≡ true) (filter (λ (t : Support). nat_eq t.head number) supports) s (filter_passes (λ (t : Support). nat_eq t.head number) supports) has),
+      ),
+      λ (among, same). Contains-filter (λ (t : Support). nat_eq t.head number) supports s among (eq-eqb s.head number same),
+    )
 
     module _ (numbers : List ℕ) (paired : Match (IsAtomAt new.things) m.heads numbers) where
       gained_said : (n : Nogood) → NewSay new.things (length old.things) n ⊎ (Any (λ r. RuleSays r n) numbered ⊎ Any (λ number. HeadSays supports number n) numbers) → IsCompletionNogood joined new.things n

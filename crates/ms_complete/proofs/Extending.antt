@@ -52,11 +52,11 @@ module _ (old named atoms_in rules_in new : Numbering) (m : GroundModule) (numbe
       let d : Declared base new m numbered = subst (λ (n : Numbering). Declared n new m numbered) is declared in
       let said : AddsExactly s0 s1 (NewSay new.things (length old.things)) = subst (λ (k : ℕ). AddsExactly s0 s1 (NewSay new.things k)) count bodies in
       let later : AddsExactly s1 s3 (λ n. Any (λ r. RuleSays r n) numbered ⊎ Any (λ number. HeadSays supports number n) numbers) =
-          adds_then s1 s2 s3 (λ n. Any (λ r. RuleSays r n) numbered) (λ n. Any (λ number. HeadSays supports number n) numbers)
-          (λ n. Any (λ r. RuleSays r n) numbered ⊎ Any (λ number. HeadSays supports number n) numbers) rules supported (λ n p. p) (λ n p. inl p) (λ n p. inr p) in
+      adds_then s1 s2 s3 (λ n. Any (λ r. RuleSays r n) numbered) (λ n. Any (λ number. HeadSays supports number n) numbers)
+      (λ n. Any (λ r. RuleSays r n) numbered ⊎ Any (λ number. HeadSays supports number n) numbers) rules supported (λ n p. p) (λ n p. inl p) (λ n p. inr p) in
       let adds : AddsExactly s0 s3 (λ n. NewSay new.things (length old.things) n ⊎ (Any (λ r. RuleSays r n) numbered ⊎ Any (λ number. HeadSays supports number n) numbers)) =
-          adds_then s0 s1 s3 (NewSay new.things (length old.things)) (λ n. Any (λ r. RuleSays r n) numbered ⊎ Any (λ number. HeadSays supports number n) numbers)
-          (λ n. NewSay new.things (length old.things) n ⊎ (Any (λ r. RuleSays r n) numbered ⊎ Any (λ number. HeadSays supports number n) numbers)) said later (λ n p. p) (λ n p. inl p) (λ n p. inr p) in
+      adds_then s0 s1 s3 (NewSay new.things (length old.things)) (λ n. Any (λ r. RuleSays r n) numbered ⊎ Any (λ number. HeadSays supports number n) numbers)
+      (λ n. NewSay new.things (length old.things) n ⊎ (Any (λ r. RuleSays r n) numbered ⊎ Any (λ number. HeadSays supports number n) numbers)) said later (λ n p. p) (λ n p. inl p) (λ n p. inr p) in
       record {
         more = d.declares.more;
         things = d.declares.things;

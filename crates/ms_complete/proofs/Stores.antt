@@ -98,11 +98,12 @@ keeps_keys old new Is adds = record {
 pub has_after : (old new : Store) (P Q R : Nogood → Type 0) → HasExactly old P → AddsExactly old new Q
     → ((n : Nogood) → R n → P n ⊎ Q n) → ((n : Nogood) → P n → R n) → ((n : Nogood) → Q n → R n) → HasExactly new R
 has_after old new P Q R has adds cases left right = λ nogood. (
-    λ (key, is). elim (adds.each key (base_of nogood) is) [
-      | inl before ↦ left nogood ((has nogood).0 (key, before))
-      | inr (other, same, q) ↦ right nogood (subst Q (sym (ap (λ (s : Stored). s.lits) same)) q)
-    ],
-    λ r. elim (cases nogood r) [
-      | inl p ↦ let (key, is) = (has nogood).1 p in (key, adds.keeps key (base_of nogood) is)
-      | inr q ↦ adds.all nogood q
-    ])
+  λ (key, is). elim (adds.each key (base_of nogood) is) [
+    | inl before ↦ left nogood ((has nogood).0 (key, before))
+    | inr (other, same, q) ↦ right nogood (subst Q (sym (ap (λ (s : Stored). s.lits) same)) q)
+  ],
+  λ r. elim (cases nogood r) [
+    | inl p ↦ let (key, is) = (has nogood).1 p in (key, adds.keeps key (base_of nogood) is)
+    | inr q ↦ adds.all nogood q
+  ],
+)

@@ -82,32 +82,33 @@ module _ (supports : List Support) (head first end : ℕ)
 
   pub own_part : end ≤ length supports → (s : Support) → Contains (take (end - first) (drop first supports)) s ↔ (Contains supports s × (s.head ≡ head))
   own_part within s = (
-      λ (k, inside, at).
-      let long : length (take (end - first) (drop first supports)) ≡ min (end - first) (length (drop first supports)) = length-take (end - first) (drop first supports) in
-      let less : k < end - first = omega (arith, inside, long) in
-      let there : get_or supports (first + k) s ≡ s = sym (part_at k s less) ∙ at in
-      let is_in : first + k < length supports = omega (arith, less, within) in
-      let from_first : first ≤ first + k = omega arith in
-      let before_end : first + k < end = omega (arith, less) in
-      let low : head ≤ (get_or supports (first + k) s).head = least (first + k) s from_first is_in in
-      let high : (get_or supports (first + k) s).head ≤ head = up_to (first + k) s before_end in
-      let same : (get_or supports (first + k) s).head ≡ s.head = ap (λ (t : Support). t.head) there in
-      ((first + k, is_in, there), omega (arith, low, high, same)),
-      λ ((k, inside, at), is_head).
-      let same : (get_or supports k s).head ≡ s.head = ap (λ (t : Support). t.head) at in
-      let from_first : first ≤ k = elim (cases_lt k first) [
-        | inl less ↦ let low : (get_or supports k s).head < head = below k s less in absurd (omega (arith, low, same, is_head))
-        | inr order ↦ order
-      ] in
-      let before_end : k < end = elim (cases_lt k end) [
-        | inl less ↦ less
-        | inr order ↦ let high : head < (get_or supports k s).head = above k s order inside in absurd (omega (arith, high, same, is_head))
-      ] in
-      let place : first + (k - first) ≡ k = omega (arith, from_first) in
-      let less : k - first < end - first = omega (arith, from_first, before_end) in
-      let dropped : length (drop first supports) ≡ length supports - first = length-drop first supports in
-      let long : length (take (end - first) (drop first supports)) ≡ min (end - first) (length (drop first supports)) = length-take (end - first) (drop first supports) in
-      (k - first, omega (arith, less, dropped, long, inside, from_first), part_at (k - first) s less ∙ (ap (λ (i : ℕ). get_or supports i s) place ∙ at)))
+    λ (k, inside, at).
+        let long : length (take (end - first) (drop first supports)) ≡ min (end - first) (length (drop first supports)) = length-take (end - first) (drop first supports) in
+        let less : k < end - first = omega (arith, inside, long) in
+        let there : get_or supports (first + k) s ≡ s = sym (part_at k s less) ∙ at in
+        let is_in : first + k < length supports = omega (arith, less, within) in
+        let from_first : first ≤ first + k = omega arith in
+        let before_end : first + k < end = omega (arith, less) in
+        let low : head ≤ (get_or supports (first + k) s).head = least (first + k) s from_first is_in in
+        let high : (get_or supports (first + k) s).head ≤ head = up_to (first + k) s before_end in
+        let same : (get_or supports (first + k) s).head ≡ s.head = ap (λ (t : Support). t.head) there in
+        ((first + k, is_in, there), omega (arith, low, high, same)),
+    λ ((k, inside, at), is_head).
+        let same : (get_or supports k s).head ≡ s.head = ap (λ (t : Support). t.head) at in
+        let from_first : first ≤ k = elim (cases_lt k first) [
+          | inl less ↦ let low : (get_or supports k s).head < head = below k s less in absurd (omega (arith, low, same, is_head))
+          | inr order ↦ order
+        ] in
+        let before_end : k < end = elim (cases_lt k end) [
+          | inl less ↦ less
+          | inr order ↦ let high : head < (get_or supports k s).head = above k s order inside in absurd (omega (arith, high, same, is_head))
+        ] in
+        let place : first + (k - first) ≡ k = omega (arith, from_first) in
+        let less : k - first < end - first = omega (arith, from_first, before_end) in
+        let dropped : length (drop first supports) ≡ length supports - first = length-drop first supports in
+        let long : length (take (end - first) (drop first supports)) ≡ min (end - first) (length (drop first supports)) = length-take (end - first) (drop first supports) in
+        (k - first, omega (arith, less, dropped, long, inside, from_first), part_at (k - first) s less ∙ (ap (λ (i : ℕ). get_or supports i s) place ∙ at)),
+  )
 
 -- the literals of a head and its supports, and the next one
 pub lits_next : (head : ℕ) (own : List Support) (lits nexts : List Lit) (i : ℕ) (s : Support) → i < length own → s ≡ get_or own i s → lits ≡ head_lits head (take i own)
@@ -150,7 +151,6 @@ supports_more_at rules supports nexts i d h within is are pushed =
 pub lits_next_at : (head : ℕ) (own : List Support) (lits nexts : List Lit) (i : ℕ) (d : Support) → i < length own → lits ≡ head_lits head (take i own)
     → nexts ≡ lits ++ fails (get_or own i d).body ∷ [] → nexts ≡ head_lits head (take (i + 1) own)
 lits_next_at head own lits nexts i d within before pushed = lits_next head own lits nexts i (get_or own i d) within (get_or_default own i d (get_or own i d) within) before pushed
-
 
 lt_false : (a b : ℕ) → ltb a b ≡ false → b ≤ a
 lt_false a b e = elim (cases_lt a b) [

@@ -107,3 +107,14 @@ none_written lits sorted store moved none = adds_none store (Writes lits) (λ n 
 
 pub nothing_written : Writes [] []
 nothing_written = record { rising = λ i j d less within. absurd (omega (arith, within)); each = All-nil (Contains []); all = All-nil (Contains []) }
+
+-- the same for the literal in a place
+module _ (lits : List Lit) (i : ℕ) (nogood : Nogood) (d : Lit) (within : i < length lits) (sorted : IsByVar lits) (w : Writes (take i lits) nogood) (last : Option Lit) (at : slice_get nogood (length nogood - 1) ≡ last) where
+  pub greater_at : IsNext last (get_or lits i d) Greater → Writes (take (i + 1) lits) (nogood ++ get_or lits i d ∷ [])
+  greater_at is = greater lits i nogood (get_or lits i d) within (get_or_default lits i d (get_or lits i d) within) sorted w last at is
+
+  pub equal_at : IsNext last (get_or lits i d) Equal → Writes (take (i + 1) lits) nogood
+  equal_at is = equal lits i nogood (get_or lits i d) within (get_or_default lits i d (get_or lits i d) within) sorted w last at is
+
+  pub opposite_at : IsNext last (get_or lits i d) Opposite → (other : Nogood) → ¬ Writes lits other
+  opposite_at is = opposite lits i nogood (get_or lits i d) within (get_or_default lits i d (get_or lits i d) within) sorted w last at is

@@ -59,7 +59,12 @@ impl Complete {
         Ok(lits)
     }
 
-    fn push_lits(&self, atoms: &[AtomId], truth: bool, lits: &mut Vec<Lit>) -> Result<(), OutOfMemory>
+    fn push_lits(
+        &self,
+        atoms: &[AtomId],
+        truth: bool,
+        lits: &mut Vec<Lit>,
+    ) -> Result<(), OutOfMemory>
         requires { All (λ a. Contains self.now.things (atom a)) atoms.now }
         ensures { OnOk result ((signs : List Signed) → Match (IsFor self.now.things) signs lits.old.items → Match (IsFor self.now.things) (signs ++ signed_atoms truth atoms.now) lits.new.items) }
     {
@@ -72,7 +77,12 @@ impl Complete {
 }
 
 /// Adds those of a body: its parts without it, and it without each of its parts.
-fn add_body(alloc: Global, number: u32, mut parts: Vec<Lit>, store: &mut Nogoods) -> Result<(), OutOfMemory>
+fn add_body(
+    alloc: Global,
+    number: u32,
+    mut parts: Vec<Lit>,
+    store: &mut Nogoods,
+) -> Result<(), OutOfMemory>
     ensures { OnOk result (AddsExactly store.old store.new (BodySays number parts.items)) }
 {
     add_parts(alloc, number, parts.as_slice(), store)?;
@@ -84,7 +94,12 @@ fn add_body(alloc: Global, number: u32, mut parts: Vec<Lit>, store: &mut Nogoods
     Ok(())
 }
 
-fn add_parts(alloc: Global, number: u32, parts: &[Lit], store: &mut Nogoods) -> Result<(), OutOfMemory>
+fn add_parts(
+    alloc: Global,
+    number: u32,
+    parts: &[Lit],
+    store: &mut Nogoods,
+) -> Result<(), OutOfMemory>
     ensures { OnOk result (AddsExactly store.old store.new (PartsSay number parts.now)) }
 {
     for part in parts {
@@ -98,7 +113,11 @@ fn add_parts(alloc: Global, number: u32, parts: &[Lit], store: &mut Nogoods) -> 
 }
 
 /// Adds those of rules that say that a head holds where a body does, and that no constraint's body holds.
-pub(crate) fn add_rules(alloc: Global, rules: &[NumberedRule], store: &mut Nogoods) -> Result<(), OutOfMemory>
+pub(crate) fn add_rules(
+    alloc: Global,
+    rules: &[NumberedRule],
+    store: &mut Nogoods,
+) -> Result<(), OutOfMemory>
     ensures { OnOk result (AddsExactly store.old store.new (λ nogood. Any (λ r. RuleSays r nogood) rules.now)) }
 {
     for rule in rules {

@@ -83,7 +83,10 @@ impl Complete {
     }
 
     /// Rules by the numbers of their bodies and heads.
-    pub(crate) fn number_rules(&mut self, rules: &[GroundRule]) -> Result<Vec<NumberedRule>, OutOfMemory>
+    pub(crate) fn number_rules(
+        &mut self,
+        rules: &[GroundRule],
+    ) -> Result<Vec<NumberedRule>, OutOfMemory>
         ensures declares { OnOk result (Declares (λ t. Any (λ rule. IsOfRule rule t) rules.now) self.old self.new) }
         ensures numbered { IfOk result (λ numbered. Match (IsNumbered self.new.things) rules.now numbered.items) }
     {

@@ -1,8 +1,7 @@
 // The nogoods that say that an atom has a rule whose body holds.
-ghost use Rattle.std.specs.Prelude.{◌≡◌, Any, OnOk, IfOk, Contains, ◌↔◌};
-ghost use Rattle.ms_complete.specs.declared.key.Support.{Support};
+ghost use Rattle.std.specs.Prelude.{◌≡◌, ◌-◌, ◌≤◌, Any, OnOk, IfOk, drop, length, take};
 ghost use Rattle.ms_complete.specs.Bases.{AddsExactly};
-ghost use Rattle.ms_complete.specs.Rules.{HeadSays, AreSupports, IsByHead, head_lits};
+ghost use Rattle.ms_complete.specs.Rules.{HeadSays, AreOwn, AreSupports, IsByHead, head_lits};
 
 use crate::key::{NumberedRule, Support};
 use crate::written::add_set;
@@ -12,7 +11,10 @@ use ms_nogood::Nogoods;
 use std::alloc::Global;
 
 /// The supports by rules that have a head, in the order of the heads.
-pub(crate) fn supports_of(alloc: Global, rules: &[NumberedRule]) -> Result<Vec<Support>, OutOfMemory>
+pub(crate) fn supports_of(
+    alloc: Global,
+    rules: &[NumberedRule],
+) -> Result<Vec<Support>, OutOfMemory>
     ensures supports { IfOk result (λ v. AreSupports rules.now v.items) }
     ensures sorted { IfOk result (λ v. IsByHead v.items) }
 {
@@ -30,18 +32,34 @@ pub(crate) fn supports_of(alloc: Global, rules: &[NumberedRule]) -> Result<Vec<S
     Ok(supports)
 }
 
-/// The supports of one head.
-fn with_head(supports: &[Support], head: u32) -> &[Support]
+/// Where the supports of one head begin and end.
+fn range_of(supports: &[Support], head: u32) -> (usize, usize)
     requires { IsByHead supports.now }
-    ensures { (s : Support) → Contains result.now s ↔ (Contains supports.now s × (s.head ≡ head)) }
+    ensures order { result.0 ≤ result.1 }
+    ensures within { result.1 ≤ length supports.now }
+    ensures own { AreOwn supports.now head (take (result.1 - result.0) (drop result.0 supports.now)) }
 {
     let first = supports.partition_point(|s| s.head < head);
     let end = supports.partition_point(|s| s.head <= head);
+    (first, end)
+}
+
+/// The supports of one head.
+fn with_head(supports: &[Support], head: u32) -> &[Support]
+    requires { IsByHead supports.now }
+    ensures { AreOwn supports.now head result.now }
+{
+    let (first, end) = range_of(supports, head);
     &supports[first..end]
 }
 
 /// Adds the nogood of each head.
-pub(crate) fn add_supports(alloc: Global, heads: &[u32], supports: &[Support], store: &mut Nogoods) -> Result<(), OutOfMemory>
+pub(crate) fn add_supports(
+    alloc: Global,
+    heads: &[u32],
+    supports: &[Support],
+    store: &mut Nogoods,
+) -> Result<(), OutOfMemory>
     requires { IsByHead supports.now }
     ensures { OnOk result (AddsExactly store.old store.new (λ nogood. Any (λ head. HeadSays supports.now head nogood) heads.now)) }
 {
@@ -51,7 +69,12 @@ pub(crate) fn add_supports(alloc: Global, heads: &[u32], supports: &[Support], s
     Ok(())
 }
 
-fn add_head(alloc: Global, head: u32, supports: &[Support], store: &mut Nogoods) -> Result<(), OutOfMemory>
+fn add_head(
+    alloc: Global,
+    head: u32,
+    supports: &[Support],
+    store: &mut Nogoods,
+) -> Result<(), OutOfMemory>
     requires { IsByHead supports.now }
     ensures { OnOk result (AddsExactly store.old store.new (HeadSays supports.now head)) }
 {

@@ -52,7 +52,11 @@ fn written(alloc: Global, lits: &[Lit]) -> Result<Option<Vec<Lit>>, OutOfMemory>
 }
 
 /// Adds the nogood of a set of literals to the program's, unless it has both signs of one variable.
-pub(crate) fn add_set(alloc: Global, lits: &mut [Lit], store: &mut Nogoods) -> Result<(), OutOfMemory>
+pub(crate) fn add_set(
+    alloc: Global,
+    lits: &mut [Lit],
+    store: &mut Nogoods,
+) -> Result<(), OutOfMemory>
     ensures { OnOk result (AddsExactly store.old store.new (Writes lits.old)) }
 {
     lits.sort_unstable_by_key(|lit| lit.var);
@@ -66,7 +70,12 @@ pub(crate) fn add_set(alloc: Global, lits: &mut [Lit], store: &mut Nogoods) -> R
 }
 
 /// Adds the nogood of two literals.
-pub(crate) fn add_pair(alloc: Global, first: Lit, second: Lit, store: &mut Nogoods) -> Result<(), OutOfMemory>
+pub(crate) fn add_pair(
+    alloc: Global,
+    first: Lit,
+    second: Lit,
+    store: &mut Nogoods,
+) -> Result<(), OutOfMemory>
     ensures { OnOk result (AddsExactly store.old store.new (Writes (pair first second))) }
 {
     let mut lits = [first, second];
