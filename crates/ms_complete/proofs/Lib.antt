@@ -1,0 +1,13 @@
+pub mod Lists
+pub mod Stores
+pub mod KeyLaws
+pub mod Writing
+pub mod WritingSteps
+pub mod SupportLaws
+pub mod NumberLaws
+pub mod Taking
+pub mod Carried
+pub mod Completed
+pub mod BodyLaws
+pub mod Adding
+pub mod Extending
