@@ -149,7 +149,7 @@ module _ (j joined : Join) (m : GroundModule) (store : Store) (old new : Numberi
   no_old_tuple t some =
       no_element j.atoms some.1 (over_old some.1 (member_of (λ rule. IsThingOf rule (tuple t)) j.rules some)) (λ g e. tuple_of g.elements e ≡ t) some.4
 
-  signs_declared : (says : Completion) → IsOf j says → All (λ (s : Signed). Contains old.things s.thing) (signs_of j says)
+  signs_declared : (says : Completion) → IsOf (IsThing j.atoms j.rules) (IsOutput j) j.rules says → All (λ (s : Signed). Contains old.things s.thing) (signs_of j.rules says)
   signs_declared (whole_body b) of =
       let has = old_member (body b) of in
       All-cons (λ (s : Signed). Contains old.things s.thing) (minus (body b)) (parts_of b) has (parts_declared b has)
@@ -171,24 +171,24 @@ module _ (j joined : Join) (m : GroundModule) (store : Store) (old new : Numberi
   signs_declared (broken rule) of =
       All-cons (λ (s : Signed). Contains old.things s.thing) (plus (body (body_of rule))) [] (old_body rule of.0) (All-nil (λ (s : Signed). Contains old.things s.thing))
 
-  was : (says : Completion) (n : Nogood) → IsOf j says → signs_of joined says ≡ signs_of j says → IsNogoodOf new.things (signs_of joined says) n → IsCompletionNogood j old.things n
+  was : (says : Completion) (n : Nogood) → IsOf (IsThing j.atoms j.rules) (IsOutput j) j.rules says → signs_of joined.rules says ≡ signs_of j.rules says → IsNogoodOf new.things (signs_of joined.rules says) n → IsCompletionNogood j old.things n
   was says n of same nogood = record {
     says = says;
     of_join = of;
-    is = nogood_was old.things d.declares.more new.things d.declares.things d.are.once (signs_of j says) (signs_declared says of) n
+    is = nogood_was old.things d.declares.more new.things d.declares.things d.are.once (signs_of j.rules says) (signs_declared says of) n
         (subst (λ (signs : List Signed). IsNogoodOf new.things signs n) same nogood);
   }
 
-  stays_said : (says : Completion) (n : Nogood) → IsOf joined says → signs_of joined says ≡ signs_of j says → IsNogoodOf old.things (signs_of j says) n → IsCompletionNogood joined new.things n
+  stays_said : (says : Completion) (n : Nogood) → IsOf (IsThing joined.atoms joined.rules) (IsOutput joined) joined.rules says → signs_of joined.rules says ≡ signs_of j.rules says → IsNogoodOf old.things (signs_of j.rules says) n → IsCompletionNogood joined new.things n
   stays_said says n of same nogood = record {
     says = says;
     of_join = of;
     is = subst (λ (signs : List Signed). IsNogoodOf new.things signs n) (sym same)
-        (nogood_stays old.things d.declares.more new.things d.declares.things d.are.once (signs_of j says) n nogood);
+        (nogood_stays old.things d.declares.more new.things d.declares.things d.are.once (signs_of j.rules says) n nogood);
   }
 
   -- A nogood of the old join is one of the new join.
-  old_said : (says : Completion) (n : Nogood) → IsOf j says → IsNogoodOf old.things (signs_of j says) n → IsCompletionNogood joined new.things n
+  old_said : (says : Completion) (n : Nogood) → IsOf (IsThing j.atoms j.rules) (IsOutput j) j.rules says → IsNogoodOf old.things (signs_of j.rules says) n → IsCompletionNogood joined new.things n
   old_said (whole_body b) n of nogood = stays_said (whole_body b) n (old_any j joined m is (λ rule. IsThingOf rule (body b)) of) refl nogood
   old_said (part_of_body b part) n of nogood = stays_said (part_of_body b part) n (old_any j joined m is (λ rule. IsThingOf rule (body b)) of.0, of.1) refl nogood
   old_said (no_condition t) n of nogood = absurd (no_old_tuple t of)
@@ -348,7 +348,7 @@ module _ (j joined : Join) (m : GroundModule) (store : Store) (old new : Numberi
       split_rule rule has = Contains-append_cases j.rules m.rules rule (subst (λ (rs : List GroundRule). Contains rs rule) is.rules has)
 
       -- A nogood of the new join is one of the old join, or is gained.
-      said : (says : Completion) (n : Nogood) → IsOf joined says → IsNogoodOf new.things (signs_of joined says) n
+      said : (says : Completion) (n : Nogood) → IsOf (IsThing joined.atoms joined.rules) (IsOutput joined) joined.rules says → IsNogoodOf new.things (signs_of joined.rules says) n
           → IsCompletionNogood j old.things n ⊎ (NewSay new.things (length old.things) n ⊎ (Any (λ r. RuleSays r n) numbered ⊎ Any (λ number. HeadSays supports number n) numbers))
       said (whole_body b) n of nogood = elim (body_cases b of) [
         | inl before ↦ inl (was (whole_body b) n before refl nogood)
