@@ -1,5 +1,0 @@
-// Tests of sessions, through their public calls.
-#![tactic(auto)]
-
-#[cfg(test)]
-mod session;
