@@ -7,3 +7,4 @@ mod analyze;
 mod lits;
 #[cfg(test)]
 mod nogood;
+mod search;
