@@ -79,6 +79,7 @@ pub record AreLogged (problem : Problem) (lines : List Note) (spent : ℕ) (answ
   pub spent : (stage_after first_stage lines).spent ≡ spent
   pub within : spent ≤ problem.limit
   pub answers : answers_in lines ≡ answers
+  pub few : length answers < problem.asked
 
 pub record IsPoint (problem : Problem) (p : Point) : Type 0 where
   pub trail : IsOnTrail problem p.trail p.decisions p.store

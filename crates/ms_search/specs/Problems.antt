@@ -82,6 +82,7 @@ AreUnique problem =
 
 -- What a problem owes to the search.
 pub record IsTarget (problem : Problem) : Type 0 where
+  pub possible : problem.impossible ≡ false
   pub member : (answer : List ℕ) → IsAnswer problem answer → problem.Member answer
   pub unique : AreUnique problem
   pub atoms_within : All (λ atom. atom < problem.things) problem.atoms
