@@ -50,25 +50,28 @@ holds_truth entries lit holds = is_under lit.truth (truth_in entries lit.var) (a
 pub record AreAnswered (problem : Problem) (lines : List Note) (spent : ℕ) (answers : List (List ℕ)) : Type 0 where
   pub lawful : AreLines problem first_stage lines
   pub owed : (stage_after first_stage lines).owed ≡ None
-  pub spent : (stage_after first_stage lines).spent ≡ spent
+  pub counted : (stage_after first_stage lines).spent ≡ spent
   pub within : spent ≤ problem.limit
-  pub answers : answers_in lines ≡ answers
+  pub listed : answers_in lines ≡ answers
   pub at_most : length answers ≤ problem.asked
 
 -- an answer's own line is among the lines
-own_among : {lines : List Note} → (before rest after : List Note) {answer : List ℕ} (nogood : Nogood) → lines ≡ before ++ notes.Answer answer ∷ rest → rest ≡ notes.Temporary nogood ∷ after → Contains lines (notes.Temporary nogood)
-own_among before rest after {answer} nogood splits next =
+own_among : (lines before rest after : List Note) (answer : List ℕ) (nogood : Nogood) → lines ≡ before ++ notes.Answer answer ∷ rest → rest ≡ notes.Temporary nogood ∷ after → Contains lines (notes.Temporary nogood)
+own_among lines before rest after answer nogood splits next =
     subst (λ (ls : List Note). Contains ls (notes.Temporary nogood)) (sym (splits ∙ ap (λ (r : List Note). before ++ notes.Answer answer ∷ r) next))
     (Contains-append_right before (notes.Answer answer ∷ notes.Temporary nogood ∷ after) (notes.Temporary nogood) (1, omega arith, refl))
+
+plus_none : {m n : ℕ} → m ≡ n → m + 0 + 0 ≡ n
+plus_none {m} {n} is = omega (arith, is)
 
 -- more answers may be asked for
 pub still_asked : (problem : Problem) (lines : List Note) (spent : ℕ) (answers : List (List ℕ)) → AreAnswered problem lines spent answers → length answers ≢ problem.asked → AreLogged problem lines spent answers
 still_asked problem lines spent answers l other = record {
   lawful = l.lawful;
   owed = l.owed;
-  spent = l.spent;
+  counted = l.counted;
   within = l.within;
-  answers = l.answers;
+  listed = l.listed;
   few = let most = l.at_most in omega (arith, most, other);
 }
 
@@ -110,7 +113,7 @@ module _ (problem : Problem) (a : Assignment) (ds : List Lit) (store : Store) (l
     differs among =
         let s = split_at lines (notes.Answer answer) among in
         let own = own_follows problem s.before s.rest answer (subst (AreLines problem first_stage) s.is l.lawful) (ap (λ (ls : List Note). (stage_after first_stage ls).owed) (sym s.is) ∙ l.owed) in
-        let there : Contains lines (notes.Temporary own.nogood) = own_among s.before s.rest own.rest own.nogood s.is own.first in
+        let there : Contains lines (notes.Temporary own.nogood) = own_among lines s.before s.rest own.rest answer own.nogood s.is own.first in
         let one = c.standing own.nogood (temporary there) in
         none_stored one.small one.among
         (same_has own.truth own.admitted own.answers one.small (stored_within one.small one.among)
@@ -197,13 +200,13 @@ module _ (problem : Problem) (a : Assignment) (ds : List Lit) (store : Store) (l
           record {
             lawful = lines_push problem first_stage (lines ++ notes.Answer answer ∷ []) (notes.Temporary own) lawful second;
             owed = ap (λ (s : Stage). s.owed) next;
-            spent = ap (λ (s : Stage). s.spent) next
+            counted = ap (λ (s : Stage). s.spent) next
                 ∙ ap (λ (o : Option (List ℕ)). (stage_after first_stage (lines ++ notes.Answer answer ∷ [])).spent + spent_for o) owed
-                ∙ ap (λ (s : Stage). s.spent + 0) stage ∙ omega (arith, l.spent);
+                ∙ ap (λ (s : Stage). s.spent + 0) stage ∙ plus_none l.counted;
             within = l.within;
-            answers = filter_map-append answer_of (lines ++ notes.Answer answer ∷ []) (notes.Temporary own ∷ [])
+            listed = filter_map-append answer_of (lines ++ notes.Answer answer ∷ []) (notes.Temporary own ∷ [])
                 ∙ append-nil (answers_in (lines ++ notes.Answer answer ∷ []))
                 ∙ filter_map-append answer_of lines (notes.Answer answer ∷ [])
-                ∙ ap (λ (xs : List (List ℕ)). xs ++ answer ∷ []) l.answers;
+                ∙ ap (λ (xs : List (List ℕ)). xs ++ answer ∷ []) l.listed;
             at_most = let few = l.few in omega (arith, few, length-append answers (answer ∷ []));
           }

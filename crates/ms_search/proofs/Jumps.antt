@@ -1,7 +1,7 @@
 -- How far a nogood is open below a level.
-use Rattle.std.proofs.Common.{ℕ, ◌≡◌, ◌<◌, ◌≤◌, zero, suc, List, [], ◌∷◌, ◌++◌, Option, Some, None, length, get_or, take, option_map, refl, sym, ◌∙◌, ap, subst, arith}
+use Rattle.std.proofs.Common.{ℕ, ◌≡◌, ◌<◌, ◌≤◌, ◌+◌, zero, suc, List, [], ◌∷◌, ◌++◌, Option, Some, None, length, get_or, take, option_map, refl, sym, ◌∙◌, ap, subst, arith}
 use Rattle.std.specs.Prelude.{◌≢◌, All, AllPairs, Contains}
-use Rattle.std.proofs.lemmas.List.{get_or-take, get_or_default}
+use Rattle.std.proofs.lemmas.List.{get_or-take, get_or_default, take_more}
 use Rattle.std.proofs.lemmas.List.Elements.{Contains-append_left, Contains-push}
 use Rattle.ms_lits.specs.declared.lit.Lit.{Lit}
 use Rattle.ms_lits.specs.declared.trail.Entry.{Entry}
@@ -10,7 +10,7 @@ use Rattle.ms_lits.specs.Assignment.{Assignment, IsAssignment, entry_of, up_to, 
 use Rattle.ms_lits.proofs.Entries.{none_at}
 use Rattle.ms_analyze.specs.Cuts.{no_entry}
 use Rattle.ms_analyze.proofs.Trails.{lost_up_to, placed}
-use Rattle.ms_search.specs.Jumps.{IsOpenIn, IsOpenTwice}
+use Rattle.ms_search.specs.Jumps.{IsFreeBelow, IsOpenIn, IsOpenTwice}
 
 -- what was assigned above a level isn't assigned up to it
 pub lost_below : (a : Assignment) → IsAssignment a → (var : ℕ) (e : Entry) (lower : ℕ) → entry_of a.entries var ≡ Some e → lower < e.level → value_in (up_to lower a.entries) var ≡ None
@@ -89,27 +89,33 @@ reached_none entries seen = record {
   two = λ lower lt. absurd (omega arith);
 }
 
-module _ (entries : List Entry) (seen : Nogood) (greatest second : ℕ) (x : Lit) (level : ℕ) (r : AreReached entries seen greatest second) (apart : All (λ (l : Lit). l.var ≢ x.var) seen) (open_below : (lower : ℕ) → lower < level → value_in (up_to lower entries) x.var ≡ None) where
+module _ (entries : List Entry) (lits : Nogood) (i greatest second : ℕ) (x : Lit) (level : ℕ) (different : AllPairs (λ (l : Lit) (m : Lit). l.var ≢ m.var) lits) (lt : i < length lits) (is : get_or lits i x ≡ x) (r : AreReached entries (take i lits) greatest second) (f : IsFreeBelow entries x level) where
+  apart : All (λ (l : Lit). l.var ≢ x.var) (take i lits)
+  apart = apart_from lits i x different lt is
+
+  seen_more : (g s : ℕ) → AreReached entries (take i lits ++ x ∷ []) g s → AreReached entries (take (i + 1) lits) g s
+  seen_more g s more = subst (λ (ls : Nogood). AreReached entries ls g s) (sym (take_more lits i x lt ∙ ap (λ (y : Lit). take i lits ++ y ∷ []) is)) more
+
   -- a greater level
-  pub reached_greater : greatest < level → AreReached entries (seen ++ x ∷ []) level greatest
-  reached_greater more = record {
+  pub reached_greater : greatest < level → AreReached entries (take (i + 1) lits) level greatest
+  reached_greater more = seen_more level greatest (record {
     order = omega arith;
-    one = λ lower lt. one_first (up_to lower entries) seen x (open_below lower lt);
-    two = λ lower lt. two_first (up_to lower entries) seen x (r.one lower lt) apart (open_below lower (omega (arith, lt, more)));
-  }
+    one = λ lower below. one_first (up_to lower entries) (take i lits) x (f.free lower below);
+    two = λ lower below. two_first (up_to lower entries) (take i lits) x (r.one lower below) apart (f.free lower (omega (arith, below, more)));
+  })
 
   -- one between
-  pub reached_between : level ≤ greatest → AreReached entries (seen ++ x ∷ []) greatest level
-  reached_between less = record {
+  pub reached_between : level ≤ greatest → AreReached entries (take (i + 1) lits) greatest level
+  reached_between less = seen_more greatest level (record {
     order = less;
-    one = λ lower lt. one_more (up_to lower entries) seen x (r.one lower lt);
-    two = λ lower lt. two_first (up_to lower entries) seen x (r.one lower (omega (arith, lt, less))) apart (open_below lower lt);
-  }
+    one = λ lower below. one_more (up_to lower entries) (take i lits) x (r.one lower below);
+    two = λ lower below. two_first (up_to lower entries) (take i lits) x (r.one lower (omega (arith, below, less))) apart (f.free lower below);
+  })
 
   -- one that isn't greater
-  pub reached_same : AreReached entries (seen ++ x ∷ []) greatest second
-  reached_same = record {
+  pub reached_same : AreReached entries (take (i + 1) lits) greatest second
+  reached_same = seen_more greatest second (record {
     order = r.order;
-    one = λ lower lt. one_more (up_to lower entries) seen x (r.one lower lt);
-    two = λ lower lt. two_more (up_to lower entries) seen x (r.two lower lt);
-  }
+    one = λ lower below. one_more (up_to lower entries) (take i lits) x (r.one lower below);
+    two = λ lower below. two_more (up_to lower entries) (take i lits) x (r.two lower below);
+  })

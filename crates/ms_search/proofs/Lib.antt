@@ -3,6 +3,6 @@ pub mod Orders
 pub mod Fronts
 pub mod OnTrail
 pub mod Lines
-pub mod Steps
+pub mod Moves
 pub mod Answers
 pub mod Readies

@@ -301,9 +301,9 @@ logged_push problem lines spent more answers note l follows owed other counts mo
     record {
       lawful = lines_push problem first_stage lines note l.lawful here;
       owed = ap (λ (s : Stage). s.owed) stage ∙ owed;
-      spent = ap (λ (s : Stage). s.spent) stage ∙ ap (λ (o : Option (List ℕ)). (stage_after first_stage lines).spent + spent_by o note) l.owed ∙ ap (λ (n : ℕ). n + spent_by None note) l.spent ∙ counts;
+      counted = ap (λ (s : Stage). s.spent) stage ∙ ap (λ (o : Option (List ℕ)). (stage_after first_stage lines).spent + spent_by o note) l.owed ∙ ap (λ (n : ℕ). n + spent_by None note) l.counted ∙ counts;
       within = most;
-      answers = filter_map-append answer_of lines (note ∷ []) ∙ ap (λ (o : Option (List ℕ)). answers_in lines ++ cons_option o []) other ∙ append-nil (answers_in lines) ∙ l.answers;
+      listed = filter_map-append answer_of lines (note ∷ []) ∙ ap (λ (o : Option (List ℕ)). answers_in lines ++ cons_option o []) other ∙ append-nil (answers_in lines) ∙ l.listed;
       few = l.few;
     }
 

@@ -1,7 +1,7 @@
 -- What a search keeps stays in step with its problem, and how it begins.
-use Rattle.std.proofs.Common.{ℕ, ◌≡◌, ◌<◌, ◌≤◌, ◌^◌, ◌-◌, ◌⊎◌, inl, inr, zero, suc, List, [], ◌∷◌, ◌++◌, Option, Some, None, true, length, get_or, take, option_map, refl, sym, ◌∙◌, ap, subst, arith}
-use Rattle.std.specs.Prelude.{◌≢◌, All, Contains}
-use Rattle.std.proofs.lemmas.Bool.{cases_eq, cases_lt}
+use Rattle.std.proofs.Common.{ℕ, ◌≡◌, ◌<◌, ◌≤◌, ◌^◌, ◌-◌, ◌⊎◌, inl, inr, zero, suc, List, [], ◌∷◌, ◌++◌, Option, Some, None, Bool, true, false, length, get_or, take, option_map, refl, sym, ◌∙◌, ap, subst, arith}
+use Rattle.std.specs.Prelude.{◌≢◌, All, Contains, is_some}
+use Rattle.std.proofs.lemmas.Bool.{both_ways, cases_eq, cases_lt}
 use Rattle.std.proofs.lemmas.List.{append-nil, get_or-take, length-take-le}
 use Rattle.std.proofs.lemmas.List.Elements.{All-cons, All-head, All-nil, All-tail}
 use Rattle.ms_lits.specs.declared.lit.Lit.{Lit}
@@ -9,7 +9,10 @@ use Rattle.ms_lits.specs.declared.trail.Entry.{Entry}
 use Rattle.ms_lits.specs.declared.note.Note.{Note}
 use Rattle.ms_lits.specs.Literals.{Nogood}
 use Rattle.ms_lits.specs.Assignment.{Assignment, HoldsIn, IsAssignment, IsWholeIn, entry_of, up_to}
-use Rattle.ms_nogood.specs.Store.{AreKept, Store, Stored, awake_in, holds_kept, is_kept, nogood_at, slot_at}
+use Rattle.ms_nogood.specs.Store.{Adds, Store, Stored, slot_at}
+use Rattle.ms_nogood.specs.Looks.{IsCalmIn}
+use Rattle.ms_nogood.specs.Watching.{CanAttach, HasSameLits}
+use Rattle.ms_refutation.proofs.Laws.{filter_twice}
 use Rattle.ms_nogood.specs.declared.kind.Kind.{Kind}
 use Rattle.ms_nogood.specs.declared.kind.Kind.TheVariants.{Base, Kept, Temporary, Reason}
 use Rattle.ms_nogood.specs.Propagation.{IsSettled, IsStored}
@@ -21,9 +24,11 @@ use Rattle.ms_analyze.specs.Cuts.{no_entry}
 use Rattle.ms_analyze.proofs.Marked.{Contains-behind, Contains-first}
 use Rattle.ms_analyze.proofs.Trails.{holds_entry, kept_up_to, placed}
 use Rattle.ms_lawful.specs.Problems.{Problem}
-use Rattle.ms_search.specs.Points.{AreLogged, Gains, GoesOn, IsOnTrail}
+use Rattle.ms_search.specs.Points.{AreLogged, Gains, GoesOn, IsOnTrail, IsWired, cut_to}
 use Rattle.ms_search.specs.Problems.{IsTheoryOf, MeansTheSame}
+use Rattle.ms_search.specs.Jumps.{IsOpenBelow, IsOpenTwice}
 use Rattle.ms_search.specs.Runs.{empty_trail}
+use Rattle.ms_search.proofs.OnTrail.{calm_twice}
 
 -- a theory that means the same owes the problem the same
 pub theory_still : (problem : Problem) (old_vars new_vars : ℕ) (old_leans new_leans old_gives new_gives : Nogood → Type 0) (old_settled new_settled : List Entry → Type 0) → IsTheoryOf problem old_vars old_leans old_gives → MeansTheSame old_vars new_vars old_leans new_leans old_gives new_gives old_settled new_settled → IsTheoryOf problem new_vars new_leans new_gives
@@ -130,9 +135,9 @@ pub logged_begun : (problem : Problem) → 1 ≤ problem.asked → AreLogged pro
 logged_begun problem some = record {
   lawful = tt;
   owed = refl;
-  spent = refl;
+  counted = refl;
   within = omega arith;
-  answers = refl;
+  listed = refl;
   few = omega (arith, some);
 }
 
@@ -166,3 +171,25 @@ whole_present problem a ds store lits t one among whole = elim (level_or_lower a
     whole = λ k d lt. held_from (up_to (a.level - 1) a.entries) (get_or lits k d) (low k d lt);
   }))
 ]
+
+-- an attached key keeps its nogood, with one nogood more
+pub attached_same : (old new : Store) (stored : Stored) (key : ℕ) (attached : ℕ → Bool) → IsWired attached old → Adds old new stored key → (k : ℕ) → attached k ≡ true → HasSameLits old new k
+attached_same old new stored key attached wired adds k is = elim (cases_eq k key) [
+  | inl same ↦ (
+      let there : is_some (slot_at old k) ≡ true = sym (wired k) ∙ is in
+      let none : is_some (slot_at old k) ≡ false = ap (λ (n : ℕ). is_some (slot_at old n)) same ∙ ap is_some adds.was_free in
+      absurd (both_ways (is_some (slot_at old k)) none there))
+  | inr other ↦ ap (option_map (λ (s : Stored). s.lits)) (adds.others k other)
+]
+
+some_stored : (a b : Stored) → Some a ≡ Some b → a ≡ b
+some_stored a b is = cc
+
+-- a nogood that is open twice below a level can be attached there
+pub can_attach : (store : Store) (a b : Assignment) (lits : Nogood) (kind : Option Kind) (level key : ℕ) → IsOpenBelow a.entries lits level → b ≡ cut_to level a → slot_at store key ≡ Some (record { lits = lits; kind = kind }) → CanAttach store b key
+can_attach store a b lits kind level key wide is here = λ s found.
+    let same : record { lits = lits; kind = kind } ≡ s = some_stored (record { lits = lits; kind = kind }) s (sym here ∙ found) in
+    subst (λ (x : Stored). (length x.lits < 2) ⊎ ((lower : ℕ) → lower < b.level → IsCalmIn (up_to lower b.entries) x.lits)) same
+    (subst (λ (y : Assignment). (length lits < 2) ⊎ ((lower : ℕ) → lower < y.level → IsCalmIn (up_to lower y.entries) lits)) (sym is)
+    (inr (λ lower lt. calm_twice (up_to lower (up_to level a.entries)) lits
+    (subst (λ (es : List Entry). IsOpenTwice es lits) (sym (filter_twice lower level a.entries (omega (arith, lt)))) (wide lower lt)))))

@@ -26,9 +26,9 @@ point_of engine store log = record {
 }
 
 -- The problem is the one that is asked about.
-pub record IsAskOf (problem : Problem) (ask : Ask) (atoms : List ℕ) : Type 0 where
+pub record IsAskOf (problem : Problem) (ask : Ask) (named : List ℕ) : Type 0 where
   pub things : problem.things ≡ ask.vars
-  pub atoms : problem.atoms ≡ atoms
+  pub atoms : problem.atoms ≡ named
   pub impossible : problem.impossible ≡ ask.impossible
   pub start : problem.start ≡ ask.assume
   pub asked : problem.asked ≡ ask.count
@@ -60,9 +60,9 @@ abbrev pub AllAssigned : ℕ → List Entry → Type 0
 AllAssigned things entries = (var : ℕ) → var < things → value_in entries var ≡ Some (truth_in entries var)
 
 -- What a search keeps is in step with its store and its trail, and with the problem.
-pub record IsReady (problem : Problem) (begun store : Store) (entries : List Entry) (attached : ℕ → Bool) (in_step : Type 0) (seen : List Entry) (vars : ℕ) (leans_on gives : Nogood → Type 0) : Type 0 where
+pub record IsReady (problem : Problem) (begun store : Store) (entries : List Entry) (attached : ℕ → Bool) (InStep : Type 0) (front : List Entry) (vars : ℕ) (leans_on gives : Nogood → Type 0) : Type 0 where
   pub wired : IsWired attached store
-  pub in_step : in_step
-  pub seen : BeginWith entries seen
+  pub in_step : InStep
+  pub seen : BeginWith entries front
   pub theory : IsTheoryOf problem vars leans_on gives
-  pub begun : GoesOn begun store
+  pub goes_on : GoesOn begun store

@@ -6,6 +6,10 @@ use Rattle.ms_lits.specs.Literals.{Nogood}
 use Rattle.ms_lits.specs.Assignment.{up_to, value_in}
 use Rattle.std.specs.Prelude.{List}
 
+-- The literal's variable is unassigned below this level.
+pub record IsFreeBelow (entries : List Entry) (lit : Lit) (level : ℕ) : Type 0 where
+  pub free : (lower : ℕ) → lower < level → value_in (up_to lower entries) lit.var ≡ None
+
 -- A literal of the nogood is unassigned.
 pub record IsOpenIn (entries : List Entry) (nogood : Nogood) : Type 0 where
   pub lit : Lit

@@ -76,9 +76,9 @@ pub record AreCovered (problem : Problem) (store : Store) (lines : List Note) : 
 pub record AreLogged (problem : Problem) (lines : List Note) (spent : ℕ) (answers : List (List ℕ)) : Type 0 where
   pub lawful : AreLines problem first_stage lines
   pub owed : (stage_after first_stage lines).owed ≡ None
-  pub spent : (stage_after first_stage lines).spent ≡ spent
+  pub counted : (stage_after first_stage lines).spent ≡ spent
   pub within : spent ≤ problem.limit
-  pub answers : answers_in lines ≡ answers
+  pub listed : answers_in lines ≡ answers
   pub few : length answers < problem.asked
 
 pub record IsPoint (problem : Problem) (p : Point) : Type 0 where
@@ -91,10 +91,9 @@ pub record GoesOn (begun store : Store) : Type 0 where
   pub stays : (key : ℕ) (stored : Stored) → slot_at begun key ≡ Some stored → slot_at store key ≡ Some stored
   pub added : (key : ℕ) (stored : Stored) → slot_at store key ≡ Some stored → (slot_at begun key ≡ Some stored) ⊎ ((stored.kind ≢ None) × (stored.kind ≢ Some kinds.Base))
 
--- Exactly the keys of the store are attached, but for some asleep.
-pub record IsWired (attached : ℕ → Bool) (store : Store) : Type 0 where
-  pub all : (key : ℕ) → is_some (nogood_at store key) ≡ true → attached key ≡ true
-  pub known : (key : ℕ) → attached key ≡ true → is_some (slot_at store key) ≡ true
+-- Exactly the keys of the store are attached, asleep or not.
+abbrev pub IsWired : (ℕ → Bool) → Store → Type 0
+IsWired attached store = (key : ℕ) → attached key ≡ is_some (slot_at store key)
 
 -- how much is left to do at most
 abbrev pub work : ℕ → Assignment → List Note → ℕ

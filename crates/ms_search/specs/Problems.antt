@@ -35,10 +35,10 @@ pub record IsAnswer (problem : Problem) (answer : List ℕ) : Type 0 where
   pub answers : true_atoms problem truth ≡ answer
 
 -- any list may be listed
-abbrev pub open_problem : (Base : Nogood → Type 0) (Gives : Nogood → Type 0) → List Nogood → Ask → List ℕ → Problem
-open_problem Base Gives kept ask atoms = record {
-  Base = Base;
-  Gives = Gives;
+abbrev pub open_problem : (Nogood → Type 0) → (Nogood → Type 0) → List Nogood → Ask → List ℕ → Problem
+open_problem InProgram MayGive kept ask atoms = record {
+  Base = InProgram;
+  Gives = MayGive;
   Member = λ _. Unit {0};
   things = ask.vars;
   atoms = atoms;
@@ -50,9 +50,9 @@ open_problem Base Gives kept ask atoms = record {
 }
 
 -- The problem of a search over a store with a theory that gives these: answers may be listed.
-abbrev pub problem_of : (Gives : Nogood → Type 0) → Store → Ask → List ℕ → Problem
-problem_of Gives store ask atoms = record (open_problem (IsBase store) Gives (last_of most_kept (kept_nogoods store)) ask atoms) {
-  Member = IsAnswer (open_problem (IsBase store) Gives (last_of most_kept (kept_nogoods store)) ask atoms)
+abbrev pub problem_of : (Nogood → Type 0) → Store → Ask → List ℕ → Problem
+problem_of MayGive store ask atoms = record (open_problem (IsBase store) MayGive (last_of most_kept (kept_nogoods store)) ask atoms) {
+  Member = IsAnswer (open_problem (IsBase store) MayGive (last_of most_kept (kept_nogoods store)) ask atoms)
 }
 
 -- a problem without things

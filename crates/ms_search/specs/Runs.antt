@@ -3,11 +3,11 @@ use Rattle.std.specs.Prelude.{ℕ, ◌≡◌, ◌≢◌, ◌<◌, ◌≤◌, ◌
 use Rattle.ms_lits.specs.declared.note.Note.{Note}
 use Rattle.ms_lits.specs.declared.note.Note.TheVariants.{Start}
 use Rattle.ms_lits.specs.Assignment.{Assignment}
-use Rattle.ms_nogood.specs.Store.{Store, Stored, lasting, nogood_at, slot_at}
+use Rattle.ms_nogood.specs.Store.{Store, Stored, Trims, slot_at}
 use Rattle.ms_nogood.specs.declared.kind.Kind.TheVariants.{Base}
 use Rattle.ms_lawful.specs.Problems.{Problem}
 use Rattle.ms_lawful.specs.Lines.{AreLines, EndsRun, answers_in, first_stage, stage_after}
-use Rattle.ms_lawful.specs.Parts.{kept_in}
+use Rattle.ms_lawful.specs.Parts.{kept_in, most_kept}
 use Rattle.ms_search.specs.declared.ask.Run.{Run}
 use Rattle.ms_search.specs.Problems.{kept_nogoods}
 
@@ -23,6 +23,11 @@ empty_trail room = record { entries = []; level = 0; room = room }
 pub record AreAttached (attached : ℕ → Bool) (store : Store) : Type 0 where
   pub known : (key : ℕ) → attached key ≡ true → is_some (slot_at store key) ≡ true
   pub fresh : (key : ℕ) → is_some (slot_at store key) ≡ true → (attached key ≡ true) ⊎ Contains store.fresh key
+
+-- The store begins a run: kept nogoods that are too many are dropped, and no key is fresh.
+pub record Begins (old new : Store) : Type 0 where
+  pub trims : Trims old (record new { fresh = old.fresh }) most_kept
+  pub fresh : new.fresh ≡ []
 
 -- The notes are a lawful log up to its last line: they begin with what is demanded, lawful lines follow, after which
 -- the solve may end so, and the answers are those of the lines.

@@ -106,13 +106,13 @@ impl Choice {
     /// Ranks all variables anew.
     fn rank_all(&mut self) -> Result<(), OutOfMemory> {
         self.ranks = BinaryHeap::new(self.alloc);
-        let mut var = self.activities.len() as u32;
-        for activity in self.activities.iter().rev() {
-            var = var.saturating_sub(1);
+        let mut var = 0;
+        for activity in self.activities.iter() {
             self.ranks.push(Rank {
                 activity: *activity,
                 var,
             })?;
+            var = var.saturating_add(1);
         }
         Ok(())
     }

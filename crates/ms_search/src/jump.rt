@@ -1,6 +1,6 @@
-ghost use Rattle.std.specs.Prelude.{ℕ, ◌≡◌, ◌≢◌, ◌<◌, ◌≤◌, All, AllPairs, None};
-ghost use Rattle.ms_lits.specs.Assignment.{IsAssignment, up_to, value_in};
-ghost use Rattle.ms_search.specs.Jumps.{IsOpenBelow};
+ghost use Rattle.std.specs.Prelude.{◌≢◌, ◌<◌, ◌≤◌, All, AllPairs};
+ghost use Rattle.ms_lits.specs.Assignment.{IsAssignment};
+ghost use Rattle.ms_search.specs.Jumps.{IsFreeBelow, IsOpenBelow};
 
 use ms_lits::{Lit, Trail};
 
@@ -31,7 +31,7 @@ pub(crate) fn jump_level(lits: &[Lit], trail: &Trail) -> u32
 fn reach(lit: Lit, trail: &Trail) -> u64
     requires assignment { IsAssignment trail.now }
     requires room { lit.var < trail.now.room }
-    ensures { (lower : ℕ) → lower < result → value_in (up_to lower trail.now.entries) lit.var ≡ None }
+    ensures { IsFreeBelow trail.now.entries lit result }
 {
     match trail.value(lit.var) {
         Some(_) => trail.level_of(lit.var) as u64,

@@ -1,12 +1,13 @@
 // A run of the search from its beginning to its end.
-ghost use Rattle.std.specs.Prelude.{ℕ, ◌≡◌, ◌<◌, ◌≤◌, [], All, AllPairs, IfOk, List, OnOk, false};
+ghost use Rattle.std.specs.Prelude.{ℕ, ◌≡◌, ◌<◌, ◌≤◌, ◌-◌, ◌⊎◌, [], All, AllPairs, Contains, IfOk, List, OnOk, false, is_some, length, max, take, true};
 ghost use Rattle.ms_lits.specs.declared.lit.Lit.{Lit};
+ghost use Rattle.ms_lits.specs.Assignment.{Assignment};
 ghost use Rattle.ms_nogood.specs.Propagation.{IsWithin};
-ghost use Rattle.ms_nogood.specs.Store.{Store};
+ghost use Rattle.ms_nogood.specs.Store.{EndsSolve, Store, ends, slot_at};
 ghost use Rattle.ms_search.specs.Engines.{IsAskOf, IsReady, point_of};
-ghost use Rattle.ms_search.specs.Points.{IsOver, IsPoint};
+ghost use Rattle.ms_search.specs.Points.{IsOver, IsPoint, IsWired};
 ghost use Rattle.ms_search.specs.Problems.{AreLasting, AreUnique, IsBase, IsTarget, MeansTheSame, problem_of};
-ghost use Rattle.ms_search.specs.Runs.{AreAttached, IsRun, Leaves, empty_trail};
+ghost use Rattle.ms_search.specs.Runs.{AreAttached, Begins, IsRun, Leaves, empty_trail};
 
 use crate::ask::{Ask, Run};
 use crate::choice::Choice;
@@ -110,7 +111,16 @@ impl<P: Propagate + Drop> SearchBy<P> {
 
 impl<P: Propagate + Drop> Engine<P> {
     /// Drops the oldest kept nogoods where they are too many, and attaches what isn't attached.
-    fn begin(&mut self, store: &mut Nogoods, vars: u32) -> Result<(), OutOfMemory> {
+    fn begin(&mut self, store: &mut Nogoods, vars: u32) -> Result<(), OutOfMemory>
+        requires empty { self.old.trail ≡ empty_trail self.old.trail.room }
+        requires attached { AreAttached (P.attached self.old.propagation) store.old }
+        requires in_step { P.InStep self.old.propagation store.old self.old.trail }
+        ensures trail { OnOk result (self.new.trail ≡ empty_trail (max self.old.trail.room vars)) }
+        ensures decisions { OnOk result (self.new.decisions ≡ self.old.decisions) }
+        ensures begins { OnOk result (Begins store.old store.new) }
+        ensures wired { OnOk result (IsWired (P.attached self.new.propagation) store.new) }
+        ensures in_step { OnOk result (P.InStep self.new.propagation store.new self.new.trail) }
+    {
         self.detach_trimmed(store);
         store.trim(MOST_KEPT);
         self.attach_fresh(store)?;
@@ -119,7 +129,12 @@ impl<P: Propagate + Drop> Engine<P> {
         self.choice.grow(vars)
     }
 
-    fn detach_trimmed(&mut self, store: &Nogoods) {
+    fn detach_trimmed(&mut self, store: &Nogoods)
+        ensures gone { All (λ key. P.attached self.new.propagation key ≡ false) (take (length store.now.kept - MOST_KEPT) store.now.kept) }
+        ensures stays { (key : ℕ) → ¬ Contains (take (length store.now.kept - MOST_KEPT) store.now.kept) key → P.attached self.new.propagation key ≡ P.attached self.old.propagation key }
+        ensures in_step { (at : Store) (trail : Assignment) → P.InStep self.old.propagation at trail → P.InStep self.new.propagation at trail }
+        ensures same { self.new ≡ record self.old { propagation = self.new.propagation } }
+    {
         for key in store.trimmed(MOST_KEPT) {
             if self.propagation.attached(*key) {
                 self.propagation.detach(*key);
@@ -127,7 +142,15 @@ impl<P: Propagate + Drop> Engine<P> {
         }
     }
 
-    fn attach_fresh(&mut self, store: &Nogoods) -> Result<(), OutOfMemory> {
+    fn attach_fresh(&mut self, store: &Nogoods) -> Result<(), OutOfMemory>
+        requires level { self.old.trail.level ≡ 0 }
+        requires in_step { P.InStep self.old.propagation store.now self.old.trail }
+        ensures all { OnOk result (All (λ key. is_some (slot_at store.now key) ≡ true → P.attached self.new.propagation key ≡ true) store.now.fresh) }
+        ensures stays { OnOk result ((key : ℕ) → P.attached self.old.propagation key ≡ true → P.attached self.new.propagation key ≡ true) }
+        ensures known { OnOk result ((key : ℕ) → P.attached self.new.propagation key ≡ true → (P.attached self.old.propagation key ≡ true) ⊎ (is_some (slot_at store.now key) ≡ true)) }
+        ensures in_step { OnOk result (P.InStep self.new.propagation store.now self.new.trail) }
+        ensures same { OnOk result (self.new ≡ record self.old { propagation = self.new.propagation }) }
+    {
         for key in store.fresh() {
             if store.contains(*key) && !self.propagation.attached(*key) {
                 self.propagation.attach(store, &self.trail, *key)?;
@@ -161,7 +184,16 @@ impl<P: Propagate + Drop> Engine<P> {
     }
 
     /// Drops what lasts for one solve, and empties the trail.
-    fn finish<T: Theory>(&mut self, store: &mut Nogoods, theory: &mut T) {
+    fn finish<T: Theory>(&mut self, store: &mut Nogoods, theory: &mut T)
+        requires wired { IsWired (P.attached self.old.propagation) store.old }
+        requires in_step { P.InStep self.old.propagation store.old self.old.trail }
+        ensures trail { self.new.trail ≡ empty_trail self.old.trail.room }
+        ensures decisions { self.new.decisions.items ≡ [] }
+        ensures ends { EndsSolve store.old store.new }
+        ensures wired { IsWired (P.attached self.new.propagation) store.new }
+        ensures in_step { P.InStep self.new.propagation store.new self.new.trail }
+        ensures means { MeansTheSame (T.vars theory.old) (T.vars theory.new) (T.leans_on theory.old) (T.leans_on theory.new) (T.Gives theory.old) (T.Gives theory.new) (T.Settled theory.old) (T.Settled theory.new) }
+    {
         self.detach_passing(store);
         store.end_solve();
         self.trail.clear();
@@ -170,7 +202,12 @@ impl<P: Propagate + Drop> Engine<P> {
         self.decisions.clear();
     }
 
-    fn detach_passing(&mut self, store: &Nogoods) {
+    fn detach_passing(&mut self, store: &Nogoods)
+        ensures gone { (key : ℕ) → ends (slot_at store.now key) ≡ true → P.attached self.new.propagation key ≡ false }
+        ensures stays { (key : ℕ) → ends (slot_at store.now key) ≡ false → P.attached self.new.propagation key ≡ P.attached self.old.propagation key }
+        ensures in_step { (at : Store) (trail : Assignment) → P.InStep self.old.propagation at trail → P.InStep self.new.propagation at trail }
+        ensures same { self.new ≡ record self.old { propagation = self.new.propagation } }
+    {
         for key in store.passing() {
             if store.ends(*key) && self.propagation.attached(*key) {
                 self.propagation.detach(*key);

@@ -146,29 +146,29 @@ not_itself false same = cc
 
 -- where a demanded literal is false, each decision is demanded
 false_decided : (problem : Problem) (a : Assignment) (ds : List Lit) (store : Store) → IsOnTrail problem a ds store → HasFalse a.entries problem.start → AreDecided problem.start a.entries
-false_decided problem a ds store t no i d lt none = elim (t.decided i d lt none).demanded [
+false_decided problem a ds store t wrong i d lt none = elim (t.decided i d lt none).demanded [
   | inl among ↦ among
   | inr all ↦ (
-      let holds = All-contains (HoldsIn (take i a.entries)) problem.start no.lit all no.among in
-      let e = holds_entry (take i a.entries) no.lit holds in
-      let here : HoldsIn a.entries no.lit = ap (option_map (λ (x : Entry). x.lit.truth)) (front_entry i a.entries no.lit.var e.entry e.found) ∙ ap Some e.truth in
-      absurd (not_itself no.lit.truth (sym here ∙ no.opposite)))
+      let holds = All-contains (HoldsIn (take i a.entries)) problem.start wrong.lit all wrong.among in
+      let e = holds_entry (take i a.entries) wrong.lit holds in
+      let here : HoldsIn a.entries wrong.lit = ap (option_map (λ (x : Entry). x.lit.truth)) (front_entry i a.entries wrong.lit.var e.entry e.found) ∙ ap Some e.truth in
+      absurd (not_itself wrong.lit.truth (sym here ∙ wrong.opposite)))
 ]
 
 -- and what is demanded is refuted
 pub false_refuted : (problem : Problem) (a : Assignment) (ds : List Lit) (store : Store) → IsOnTrail problem a ds store → HasFalse a.entries problem.start → IsRefuted (IsStored store) problem.start
-false_refuted problem a ds store t no = λ set has closed.
-    let all : IsWhole set (lits_of a.entries) = λ k d lt. entries_derived store a.entries problem.start t.reasoned (false_decided problem a ds store t no) k d lt set has closed in
+false_refuted problem a ds store t wrong = λ set has closed.
+    let all : IsWhole set (lits_of a.entries) = λ k d lt. entries_derived store a.entries problem.start t.reasoned (false_decided problem a ds store t wrong) k d lt set has closed in
     inr (record {
-      lit = no.lit;
-      holds = All-contains (λ (l : Lit). IsTrue (set l)) problem.start no.lit has no.among;
-      opposite = held_in_set set a.entries (opposite_of no.lit) no.opposite all;
+      lit = wrong.lit;
+      holds = All-contains (λ (l : Lit). IsTrue (set l)) problem.start wrong.lit has wrong.among;
+      opposite = held_in_set set a.entries (opposite_of wrong.lit) wrong.opposite all;
     })
 
 -- fewer answers than were asked for
 few_answers : (problem : Problem) (lines : List Note) (answers : List (List ℕ)) (spent : ℕ) → AreLogged problem lines spent answers → length (answers_in (stage_after first_stage lines).lines) < problem.asked
 few_answers problem lines answers spent l =
-    let all = ap length (ap answers_in (lines_after first_stage lines) ∙ l.answers) in
+    let all = ap length (ap answers_in (lines_after first_stage lines) ∙ l.listed) in
     let few = l.few in
     omega (arith, all, few)
 
@@ -178,10 +178,10 @@ over_complete problem p c l refuted = record {
   lawful = l.lawful;
   ends = record {
     nothing_owed = l.owed;
-    within = let most = l.within in let same = l.spent in omega (arith, most, same);
+    within = let most = l.within in let same = l.counted in omega (arith, most, same);
     reason = (few_answers problem p.lines p.answers p.spent l, inr (subst (λ (ls : List Note). IsRefuted (InFullStore problem ls) problem.start) (sym (lines_after first_stage p.lines)) (refuted_full problem p.store p.lines problem.start c refuted)));
   };
-  answers = l.answers;
+  answers = l.listed;
   kept = c.kept;
 }
 
@@ -191,9 +191,9 @@ over_cut problem p c l all = record {
   lawful = l.lawful;
   ends = record {
     nothing_owed = l.owed;
-    within = let most = l.within in let same = l.spent in omega (arith, most, same);
-    reason = (few_answers problem p.lines p.answers p.spent l, l.spent ∙ all);
+    within = let most = l.within in let same = l.counted in omega (arith, most, same);
+    reason = (few_answers problem p.lines p.answers p.spent l, l.counted ∙ all);
   };
-  answers = l.answers;
+  answers = l.listed;
   kept = c.kept;
 }
