@@ -6,7 +6,7 @@ use crate::term_id::TermId;
 use smallvec::SmallVec;
 
 /// Arguments, of which most functions have few.
-pub(crate) type Arguments = SmallVec<TermId, 4>;
+pub(crate) type Arguments = SmallVec<TermId, 2>;
 
 /// A term whose bytes and whose arguments are numbers. The size is the number of its symbols, held at the greatest u64.
 #[derive(Drop, PartialEq, Eq, Hash)]
