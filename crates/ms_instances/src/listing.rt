@@ -9,14 +9,12 @@ ghost use Rattle.ms_instances.specs.Naming.{IsNamed, Adds, Refuses, AreInstances
 use crate::fault::InstanceFault;
 use crate::instance::{Instance, Instances};
 use crate::making::instance_of;
+use ms_base::limits::MOST_COPIES;
 use ms_base::seq::Seq;
 use ms_core::rule::CoreRule;
 use ms_term::Terms;
 use ms_value::Walk;
 use std::alloc::Global;
-
-/// How many copies of rules there may be together.
-const MOST_COPIES: usize = 1_000_000;
 
 /// What the copies of the rules say, one after the other, under names of the table. Names of the table stay what
 /// they were. Where there are more copies than there may be, it is `TooMany`.

@@ -1,5 +1,5 @@
 // Copies of rules.
-ghost use Rattle.std.specs.Prelude.{◌≡◌, IfOk};
+ghost use Rattle.std.specs.Prelude.{◌≡◌, ◌++◌, IfOk, OnOk};
 
 use ms_base::memory::OutOfMemory;
 use ms_base::seq::Seq;
@@ -7,14 +7,18 @@ use ms_join::aggregate::{GroundAgg, GroundElement, GroundElements, SignedAgg, Si
 use ms_join::ground_rule::{GroundRule, GroundRules};
 use std::alloc::Global;
 
-pub(crate) fn copy_rules(alloc: Global, rules: &[GroundRule]) -> Result<GroundRules, OutOfMemory>
-    ensures { IfOk result (λ copies. copies ≡ rules.now) }
+/// Appends a copy of each rule.
+pub(crate) fn append_copies(
+    alloc: Global,
+    rules: &[GroundRule],
+    into: &mut GroundRules,
+) -> Result<(), OutOfMemory>
+    ensures { OnOk result (into.new ≡ into.old ++ rules.now) }
 {
-    let mut copies = Seq::with_capacity(alloc, rules.len())?;
     for rule in rules {
-        copies.push(copy_rule(alloc, rule)?)?;
+        into.push(copy_rule(alloc, rule)?)?;
     }
-    Ok(copies)
+    Ok(())
 }
 
 fn copy_rule(alloc: Global, rule: &GroundRule) -> Result<GroundRule, OutOfMemory>

@@ -5,13 +5,13 @@ ghost use Rattle.ms_join.specs.Modules.{IsInput, IsJoined, IsOutput, IsWellForme
 ghost use Rattle.ms_module.specs.Faults.{AreThose};
 ghost use Rattle.ms_module.specs.Inputs.{IsInputAt, Assigns, Releases, AreInputs, Declares, Withdraws};
 
-use crate::copies::copy_rules;
+use crate::copies::append_copies;
 use ms_base::atom_id::AtomId;
 use ms_base::memory::OutOfMemory;
 use ms_base::seq::Seq;
 use ms_base::truth::{Effect, Truth};
 use ms_join::ground_module::GroundModule;
-use ms_join::ground_rule::{GroundRules, Input, Rules};
+use ms_join::ground_rule::{GroundRule, Input, Rules};
 use std::alloc::Global;
 use std::marker::Model;
 use std::mem;
@@ -149,8 +149,7 @@ impl State {
         ensures inputs { OnOk result (AreInputs self.new) }
     {
         self.add_atoms(m)?;
-        let rules = copy_rules(self.alloc, m.rules.as_slice())?;
-        self.append(rules)?;
+        self.append(m.rules.as_slice())?;
         Ok(())
     }
 
@@ -215,16 +214,12 @@ impl State {
         }
     }
 
-    /// Adds rules at the end.
-    fn append(&mut self, rules: GroundRules) -> Result<(), OutOfMemory>
-        ensures ok { OnOk result (self.new ≡ record self.old { rules = self.old.rules ++ rules }) }
-        ensures inputs { AreInputs self.new }
+    /// Adds copies of rules at the end.
+    fn append(&mut self, rules: &[GroundRule]) -> Result<(), OutOfMemory>
+        ensures ok { OnOk result (self.new ≡ record self.old { rules = self.old.rules ++ rules.now }) }
+        ensures inputs { OnOk result (AreInputs self.new) }
     {
-        let mut all = mem::replace(&mut self.rules.rules, Seq::new(self.alloc)).into_vec();
-        let mut more = rules.into_vec();
-        all.append(&mut more)?;
-        self.rules.rules = Seq::from_vec(all);
-        Ok(())
+        append_copies(self.alloc, rules, &mut self.rules.rules)
     }
 }
 

@@ -1,11 +1,8 @@
 -- What reading an input to its end answers and leaves.
-use Rattle.std.specs.Prelude.{ℕ, ◌≡◌, ◌<◌, ◌≤◌, ◌+◌, ◌^◌, List, [], ◌++◌, length, take, drop, Option, Some, Result, Ok, Err}
+use Rattle.std.specs.Prelude.{ℕ, ◌≡◌, ◌<◌, ◌≤◌, ◌+◌, List, [], ◌++◌, length, take, drop, Option, Some, Result, Ok, Err}
+pub use Rattle.ms_base.specs.Limits.{most_bytes}
 use Rattle.mshot.specs.declared.input.InputStop.{InputStop}
 use Rattle.mshot.specs.declared.input.InputStop.TheVariants.{Fault, TooLong, OutOfMemory}
-
--- how many bytes an input may have
-abbrev pub most_bytes : ℕ
-most_bytes = 2 ^ 30
 
 -- The first bytes of an input were taken, at most so many of them, and these are left.
 abbrev pub IsRestOf : ℕ → List ℕ → Option (List ℕ) → Type 0

@@ -3,12 +3,10 @@ ghost use Rattle.ms_io.specs.Faults.{Rose};
 ghost use Rattle.mshot.specs.Input.{ReadsPiece, ReadsTo};
 ghost use Rattle.mshot.specs.declared.input.InputStop.TheVariants.{OutOfMemory, TooLong};
 
+use ms_base::limits::MOST_BYTES;
 use ms_base::seq::{Bytes, Seq};
 use ms_io::Source;
 use std::alloc::{AllocError, Global};
-
-/// How many bytes an input may have.
-pub const MOST_BYTES: usize = 1 << 30;
 
 /// How many bytes are asked for at once.
 const CHUNK: usize = 1 << 16;
