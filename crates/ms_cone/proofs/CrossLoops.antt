@@ -6,7 +6,8 @@ use Rattle.ms_join.specs.declared.ground_module.GroundModule.{GroundModule}
 use Rattle.ms_join.specs.Modules.{Join, IsJoin, IsWellFormed}
 use Rattle.ms_join.specs.Dependencies.{AreTogether, Depends, Walk, Reaches}
 use Rattle.ms_join.specs.Composability.{LoopsWith, IsInLoop}
-use Rattle.ms_cone.proofs.Walks.{depends_below, depends_cases, reaches_self, reaches_more, reaches_through, rule_of}
+use Rattle.ms_join.proofs.Walks.{reaches_self, reaches_more, reaches_through}
+use Rattle.ms_cone.proofs.Walks.{depends_below, depends_cases, rule_of}
 
 -- a head of the module in the old base
 pub record IsOldHead (j : Join) (m : GroundModule) (a : ℕ) : Type 0 where

@@ -3,7 +3,7 @@ use Rattle.std.proofs.Common.{◌≡◌, ℕ, zero, suc, List, refl, subst}
 use Rattle.std.specs.Prelude.{◌↔◌}
 use Rattle.ms_join.specs.declared.ground_rule.GroundRule.{GroundRule}
 use Rattle.ms_join.specs.Dependencies.{Depends, Walk, Reaches, AreTogether}
-use Rattle.ms_cone.proofs.Walks.{reaches_self, reaches_more, reaches_through}
+use Rattle.ms_join.proofs.Walks.{reaches_self, reaches_more, reaches_through}
 
 -- a path of so many steps
 abbrev pub Path : (ℕ → ℕ → Type 0) → ℕ → ℕ → ℕ → Type 0

@@ -3,6 +3,7 @@ use Rattle.std.proofs.Common.{◌≡◌, ℕ, zero, suc, ℤ, pos, negsuc, ◌+�
 use Rattle.std.specs.Prelude.{Contains}
 use Rattle.std.proofs.lemmas.Int.{ints, by_lt_z}
 use Rattle.std.proofs.lemmas.List.Elements.{Contains-append_cases, Contains-append_right}
+use Rattle.ms_base.proofs.Lists.{Contains-first}
 use Rattle.ms_copies.specs.InOrder.{integers_from, how_many, integers}
 
 none_by : (d low high : ℤ) → high -ℤ low ≡ d → high <ℤ low → integers_from low (how_many d) ≡ []
@@ -32,9 +33,6 @@ pub the_one : {X : Type 0} (x y : X) → Contains (x ∷ []) y → x ≡ y
 the_one x y (zero, inside, is) = is
 the_one x y (suc k, inside, is) = absurd (omega arith)
 
-pub contains_first : {X : Type 0} (x : X) (xs : List X) → Contains (x ∷ xs) x
-contains_first x xs = (0, omega arith, refl)
-
 from_bounds : (n : ℤ) (k : ℕ) (m : ℤ) → Contains (integers_from n k) m → (n ≤ℤ m) × (m <ℤ (n +ℤ pos k))
 unfolding integers_from
 from_bounds n zero m (i, inside, is) = absurd (omega arith)
@@ -51,7 +49,7 @@ to_bounds n zero m low high = absurd (omega (arith, ints))
 to_bounds n (suc k) m low high = by_lt_z n m
     (λ (h : n <ℤ m). let next : (n +ℤ pos 1) ≤ℤ m = omega (arith, ints) in let last : m <ℤ ((n +ℤ pos 1) +ℤ pos k) = omega (arith, ints) in
     Contains-append_right (n ∷ []) (integers_from (n +ℤ pos 1) k) m (to_bounds (n +ℤ pos 1) k m next last))
-    (λ (h : m ≤ℤ n). let same : n ≡ m = omega (arith, ints) in subst (λ (i : ℤ). Contains (n ∷ integers_from (n +ℤ pos 1) k) i) same (contains_first n (integers_from (n +ℤ pos 1) k)))
+    (λ (h : m ≤ℤ n). let same : n ≡ m = omega (arith, ints) in subst (λ (i : ℤ). Contains (n ∷ integers_from (n +ℤ pos 1) k) i) same (Contains-first n (integers_from (n +ℤ pos 1) k)))
 
 bounds_by : (d low high m : ℤ) → high -ℤ low ≡ d → Contains (integers_from low (how_many d)) m → (low ≤ℤ m) × (m ≤ℤ high)
 unfolding integers_from

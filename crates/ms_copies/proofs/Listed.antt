@@ -2,32 +2,26 @@
 use Rattle.std.proofs.Common.{◌≡◌, ℤ, ◌≤ℤ◌, inl, inr, List, [], ◌∷◌, ◌++◌, map, Option, Some, None, refl, sym, ap, ◌∙◌, subst, arith}
 use Rattle.std.specs.Prelude.{Contains, flat_map}
 use Rattle.std.proofs.lemmas.List.Elements.{Contains-append_cases, Contains-append_left, Contains-append_right}
+use Rattle.ms_base.proofs.Lists.{Contains-first}
 use Rattle.ms_tree.specs.Tree.{Tree, number, text, function}
 use Rattle.ms_core.specs.declared.rule.Range.{Range}
 use Rattle.ms_copies.specs.Evaluating.{Chosen, integer, value}
 use Rattle.ms_copies.specs.Choosing.{IsWithin, AreChosen}
 use Rattle.ms_copies.specs.InOrder.{integers, integers_between, integers_within, choices}
-use Rattle.ms_copies.proofs.Integers.{integers_bounds, integers_among, the_one, contains_first}
+use Rattle.ms_copies.proofs.Integers.{integers_bounds, integers_among, the_one}
 
 -- the element that a list of images has it from
 pub map_parts : {X Y : Type 0} (f : X → Y) (xs : List X) (y : Y) → Contains (map f xs) y → (x : X) × Contains xs x × (f x ≡ y)
 map_parts f [] y (k, inside, is) = absurd (omega arith)
 map_parts f (x ∷ xs) y h = elim (Contains-append_cases (f x ∷ []) (map f xs) y h) [
-  | inl here ↦ (x, contains_first x xs, the_one (f x) y here)
+  | inl here ↦ (x, Contains-first x xs, the_one (f x) y here)
   | inr there ↦ let p = map_parts f xs y there in (p.0, Contains-append_right (x ∷ []) xs p.0 p.1, p.2)
-]
-
-pub map_among : {X Y : Type 0} (f : X → Y) (xs : List X) (x : X) → Contains xs x → Contains (map f xs) (f x)
-map_among f [] x (k, inside, is) = absurd (omega arith)
-map_among {X} {Y} f (z ∷ xs) x h = elim (Contains-append_cases (z ∷ []) xs x h) [
-  | inl here ↦ subst (λ (w : X). Contains (f z ∷ map f xs) (f w)) (the_one z x here) (contains_first (f z) (map f xs))
-  | inr there ↦ Contains-append_right (f z ∷ []) (map f xs) (f x) (map_among f xs x there)
 ]
 
 pub flat_parts : {X Y : Type 0} (f : X → List Y) (xs : List X) (y : Y) → Contains (flat_map f xs) y → (x : X) × Contains xs x × Contains (f x) y
 flat_parts f [] y (k, inside, is) = absurd (omega arith)
 flat_parts f (x ∷ xs) y h = elim (Contains-append_cases (f x) (flat_map f xs) y h) [
-  | inl here ↦ (x, contains_first x xs, here)
+  | inl here ↦ (x, Contains-first x xs, here)
   | inr there ↦ let p = flat_parts f xs y there in (p.0, Contains-append_right (x ∷ []) xs p.0 p.1, p.2)
 ]
 
@@ -83,7 +77,7 @@ choices_from (range ∷ ranges) before c h =
 -- and each choice is in the list
 pub choices_to : (ranges : List Range) (before c : Chosen) → AreChosen before ranges c → Contains (choices ranges before) c
 unfolding choices
-choices_to [] before [] h = contains_first [] []
+choices_to [] before [] h = Contains-first [] []
 choices_to [] before (n ∷ c) h = absurd h
 choices_to (range ∷ ranges) before [] h = absurd h
 choices_to (range ∷ ranges) before (n ∷ c) h =

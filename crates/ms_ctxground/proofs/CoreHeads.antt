@@ -2,6 +2,7 @@
 use Rattle.std.proofs.Common.{List, [], ◌∷◌, Bool, true, false, Option, Some, None, refl, map}
 use Rattle.std.proofs.lemmas.List.Elements.{All-nil, All-cons, All-append, All-map}
 use Rattle.std.specs.List.{All, flat_map}
+use Rattle.ms_base.proofs.Lists.{All-flat_map}
 use Rattle.ms_grammar.specs.declared.statement.TextGuard.{TextGuard}
 use Rattle.ms_grammar.specs.declared.statement.TextSet.{TextSet}
 use Rattle.ms_grammar.specs.declared.statement.SetElement.{SetElement}
@@ -18,10 +19,6 @@ use Rattle.ms_core.specs.Texts.{Texts, PartName, core_of_call, core_of_form, cor
 use Rattle.ms_call.specs.declared.command.Call.{Call}
 use Rattle.ms_instances.specs.Naming.{IsHeadedRule}
 use Rattle.ms_solving.specs.Grounding.{core_of_calls}
-
-pub All-flat_map : {X Y : Type 0} (P : Y → Type 0) (f : X → List Y) → ((x : X) → All P (f x)) → (xs : List X) → All P (flat_map f xs)
-All-flat_map P f all [] = All-nil P
-All-flat_map P f all (x ∷ xs) = All-append P (f x) (flat_map f xs) (all x) (All-flat_map P f all xs)
 
 abbrev IsHeadedAs : CoreRule → Type 0
 IsHeadedAs r = IsHeadedRule r.kind r.head

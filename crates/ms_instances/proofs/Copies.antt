@@ -4,6 +4,7 @@ use Rattle.std.specs.Prelude.{Contains, IsSome, IsSomeAnd, is_some, unwrap_or, o
 use Rattle.std.specs.List.{list_all}
 use Rattle.std.proofs.lemmas.Bool.{and_parts}
 use Rattle.std.proofs.lemmas.List.Elements.{All-nil, All-cons, All-head, All-tail, All-append, All-contains, Contains-append_left, Contains-append_right}
+use Rattle.ms_base.proofs.Lists.{Contains-behind, Contains-cases, Contains-first}
 use Rattle.ms_tree.specs.Tree.{Tree}
 use Rattle.ms_grammar.specs.Terms.{both}
 use Rattle.ms_core.specs.declared.pattern.Pattern.{Pattern}
@@ -14,10 +15,9 @@ use Rattle.ms_copies.specs.Evaluating.{Chosen, value}
 use Rattle.ms_copies.specs.Choosing.{AreChosen, Holds, IsCopy}
 use Rattle.ms_copies.specs.Grounding.{head_under}
 use Rattle.ms_copies.specs.Simplifying.{IsAmong, IsValueOf}
-use Rattle.ms_copies.proofs.Integers.{contains_first}
 use Rattle.ms_instances.specs.Instances.{Said}
 use Rattle.ms_instances.specs.Listing.{holds, head_value, values, said_of}
-use Rattle.ms_instances.proofs.Members.{said_parts, said_made, contains_cons, contains_more, all_from, any_parts, any_made}
+use Rattle.ms_instances.proofs.Members.{said_parts, said_made, all_from, any_parts, any_made}
 
 -- The rule says this under the choice.
 pub record IsSaid (rule : CoreRule) (chosen : Chosen) (s : Said) : Type 0 where
@@ -134,19 +134,19 @@ among_values chosen [] ts t e (k, inside, is) = let none : [] ≡ ts = cc in abs
 among_values chosen (p ∷ ps) ts t e c =
     let Is : Pattern → Type 0 = λ q. value chosen q ≡ Some t in
     let parts = both_parts (value chosen p) (values chosen ps) ts e in
-    elim (contains_cons parts.first parts.rest t (subst (λ (us : List Tree). Contains us t) parts.are c)) [
-      | inl same ↦ any_made Is (p ∷ ps) p (contains_first p ps) (parts.first_is ∙ ap Some same)
-      | inr there ↦ let found = any_parts Is ps (among_values chosen ps parts.rest t parts.rest_is there) in any_made Is (p ∷ ps) found.0 (contains_more p ps found.0 found.1) found.2
+    elim (Contains-cases parts.first parts.rest t (subst (λ (us : List Tree). Contains us t) parts.are c)) [
+      | inl same ↦ any_made Is (p ∷ ps) p (Contains-first p ps) (parts.first_is ∙ ap Some same)
+      | inr there ↦ let found = any_parts Is ps (among_values chosen ps parts.rest t parts.rest_is there) in any_made Is (p ∷ ps) found.0 (Contains-behind p ps found.0 found.1) found.2
     ]
 
 pub value_among : (chosen : Chosen) (ps : List Pattern) (ts : List Tree) (p : Pattern) (t : Tree) → values chosen ps ≡ Some ts → Contains ps p → value chosen p ≡ Some t → Contains ts t
 value_among chosen [] ts p t e (k, inside, is) v = absurd (omega arith)
 value_among chosen (q ∷ ps) ts p t e c v =
     let parts = both_parts (value chosen q) (values chosen ps) ts e in
-    let placed : Contains (parts.first ∷ parts.rest) t = elim (contains_cons q ps p c) [
+    let placed : Contains (parts.first ∷ parts.rest) t = elim (Contains-cases q ps p c) [
       | inl same ↦ let equal : Some parts.first ≡ Some t = sym parts.first_is ∙ ap (value chosen) same ∙ v in
-          let here : parts.first ≡ t = cc in subst (λ (u : Tree). Contains (parts.first ∷ parts.rest) u) here (contains_first parts.first parts.rest)
-      | inr there ↦ contains_more parts.first parts.rest t (value_among chosen ps parts.rest p t parts.rest_is there v)
+          let here : parts.first ≡ t = cc in subst (λ (u : Tree). Contains (parts.first ∷ parts.rest) u) here (Contains-first parts.first parts.rest)
+      | inr there ↦ Contains-behind parts.first parts.rest t (value_among chosen ps parts.rest p t parts.rest_is there v)
     ] in
     subst (λ (us : List Tree). Contains us t) (sym parts.are) placed
 

@@ -5,6 +5,7 @@ use Rattle.std.specs.List.{filter_map, cons_option}
 use Rattle.std.proofs.lemmas.Int.{ints}
 use Rattle.std.proofs.lemmas.List.{length-map}
 use Rattle.std.proofs.lemmas.List.Elements.{All-nil, All-head, All-tail, All-contains, Contains-append_cases, Contains-append_left, Contains-append_right}
+use Rattle.ms_base.proofs.Lists.{Contains-behind, Contains-filter, Contains-first, Contains-map}
 use Rattle.ms_core.specs.declared.rule.Range.{Range}
 use Rattle.ms_core.specs.declared.rule.Agg.{Agg}
 use Rattle.ms_core.specs.declared.rule.CoreRule.{CoreRule}
@@ -12,13 +13,13 @@ use Rattle.ms_copies.specs.Evaluating.{Chosen, integer, value}
 use Rattle.ms_copies.specs.Choosing.{IsCopy, IsElementCopy}
 use Rattle.ms_copies.specs.InOrder.{integers, integers_between, integers_within, choices}
 use Rattle.ms_copies.specs.Limits.{most_copies, Copy, ElementCopy, IsCopyOf, IsElementCopyIn, IsElementCopyOf, HasTooManyCopies}
-use Rattle.ms_copies.proofs.Integers.{integers_more, integers_none, integers_bounds, contains_first}
-use Rattle.ms_copies.proofs.Listed.{map_parts, map_among, choices_from, choices_to}
+use Rattle.ms_copies.proofs.Integers.{integers_more, integers_none, integers_bounds}
+use Rattle.ms_copies.proofs.Listed.{map_parts, choices_from, choices_to}
 use Rattle.ms_instances.specs.Listing.{said_of, said_by_rule, all_said}
-use Rattle.ms_instances.proofs.Members.{contains_more, all_from}
+use Rattle.ms_instances.proofs.Members.{all_from}
 use Rattle.ms_instances.proofs.Copies.{some_of, says_copy, copy_says}
 use Rattle.ms_copies.specs.Simplifying.{ArePlain}
-use Rattle.ms_instances.proofs.Different.{Different, nothing_in, different_pairs, pairs_different, different_append, different_map, different_flat, different_filter, filter_parts, filter_among, no_longer}
+use Rattle.ms_instances.proofs.Different.{Different, nothing_in, different_pairs, pairs_different, different_append, different_map, different_flat, different_filter, filter_parts, no_longer}
 
 not_again : (low high : ℤ) → Contains (integers (low +ℤ pos 1) high) low → ⊥
 not_again low high c = let b : (low +ℤ pos 1) ≤ℤ low = (integers_bounds (low +ℤ pos 1) high low c).0 in omega (arith, ints)
@@ -126,7 +127,7 @@ copy_among n (rule ∷ rules) c zero e h =
     let same : made c.chosen ≡ c = ap (λ (p : ℕ). record { place = p; chosen = c.chosen }) here in
     Contains-append_left (map made (chosen_for rule)) (copies_at (n + 1) rules) c
     (subst (λ (d : Copy). Contains (map made (chosen_for rule)) d) same
-    (map_among made (chosen_for rule) c.chosen (filter_among (says_something rule) (choices rule.conds.ranges []) c.chosen (choices_to rule.conds.ranges [] c.chosen h.within) (ap is_some s.1))))
+    (Contains-map made (chosen_for rule) c.chosen (Contains-filter (says_something rule) (choices rule.conds.ranges []) c.chosen (choices_to rule.conds.ranges [] c.chosen h.within) (ap is_some s.1))))
 copy_among n (rule ∷ rules) c (suc k) e h =
     Contains-append_right (map (λ d. record { place = n; chosen = d }) (chosen_for rule)) (copies_at (n + 1) rules) c (copy_among (n + 1) rules c k (omega arith) h)
 
@@ -168,8 +169,8 @@ no_element (Some rule) e plain h = subst (λ (aggs : List Agg). IsSomeAnd (slice
 
 at_place : {X : Type 0} (xs : List X) (k : ℕ) (x : X) → slice_get xs k ≡ Some x → Contains xs x
 at_place [] k x e = cc
-at_place {X} (y ∷ ys) zero x e = let same : y ≡ x = cc in subst (λ (z : X). Contains (y ∷ ys) z) same (contains_first y ys)
-at_place (y ∷ ys) (suc k) x e = contains_more y ys x (at_place ys k x e)
+at_place {X} (y ∷ ys) zero x e = let same : y ≡ x = cc in subst (λ (z : X). Contains (y ∷ ys) z) same (Contains-first y ys)
+at_place (y ∷ ys) (suc k) x e = Contains-behind y ys x (at_place ys k x e)
 
 no_elements : (rules : List CoreRule) → ArePlain rules → (es : List ElementCopy) → All (IsElementCopyOf rules) es → length es ≡ 0
 no_elements rules plain [] h = refl

@@ -3,9 +3,9 @@ use Rattle.std.proofs.Common.{◌≡◌, ◌≢◌, suc, ◌<◌, ◌≤◌, Boo
 use Rattle.std.specs.Prelude.{⊤, Contains, flat_map, filter}
 use Rattle.std.proofs.lemmas.List.Kept.{AllPairs-cons}
 use Rattle.std.proofs.lemmas.List.Elements.{Contains-append_cases, Contains-append_left, Contains-append_right}
-use Rattle.ms_copies.proofs.Integers.{contains_first}
+use Rattle.ms_base.proofs.Lists.{Contains-behind, Contains-cases, Contains-filtered, Contains-first, passes-filtered}
 use Rattle.ms_copies.proofs.Listed.{map_parts, flat_parts}
-use Rattle.ms_instances.proofs.Members.{contains_cons, contains_more, all_from}
+use Rattle.ms_instances.proofs.Members.{all_from}
 
 -- No two members are equal.
 abbrev pub Different : {X : Type 0} → List X → Type 0
@@ -34,9 +34,9 @@ different_append [] ys h g apart = g
 different_append {X} (x ∷ xs) ys h g apart = (
   λ (c : Contains (xs ++ ys) x). elim (Contains-append_cases xs ys x c) [
     | inl here ↦ h.0 here
-    | inr there ↦ apart x (contains_first x xs) there
+    | inr there ↦ apart x (Contains-first x xs) there
   ],
-  different_append xs ys h.1 g (λ y c d. apart y (contains_more x xs y c) d),
+  different_append xs ys h.1 g (λ y c d. apart y (Contains-behind x xs y c) d),
 )
 
 pub different_map : {X Y : Type 0} (f : X → Y) (xs : List X) → ((x z : X) → f x ≡ f z → x ≡ z) → Different xs → Different (map f xs)
@@ -53,35 +53,9 @@ different_flat {X} {Y} f (x ∷ xs) each one h =
     (λ (y : Y) (c : Contains (f x) y) (d : Contains (flat_map f xs) y).
     let from = flat_parts f xs y d in h.0 (subst (λ (z : X). Contains xs z) (one from.0 x y from.2 c) from.1))
 
-within_chosen : {X : Type 0} (b : Bool) (x : X) (xs : List X) (y : X) → Contains (cond b (x ∷ xs) xs) y → ((b ≡ true) × (x ≡ y)) ⊎ Contains xs y
-within_chosen true x xs y c = elim (contains_cons x xs y c) [
-  | inl same ↦ inl (refl, same)
-  | inr there ↦ inr there
-]
-within_chosen false x xs y c = inr c
-
 -- a filtered list has those members that pass
 pub filter_parts : {X : Type 0} (p : X → Bool) (xs : List X) (y : X) → Contains (filter p xs) y → Contains xs y × (p y ≡ true)
-filter_parts p [] y c = absurd (nothing_in y c)
-filter_parts {X} p (x ∷ xs) y c = elim (within_chosen (p x) x (filter p xs) y c) [
-  | inl here ↦ (subst (λ (z : X). Contains (x ∷ xs) z) here.1 (contains_first x xs), sym (ap p here.1) ∙ here.0)
-  | inr there ↦ let from = filter_parts p xs y there in (contains_more x xs y from.0, from.1)
-]
-
-kept_here : {X : Type 0} (b : Bool) (x : X) (xs : List X) → b ≡ true → Contains (cond b (x ∷ xs) xs) x
-kept_here true x xs e = contains_first x xs
-kept_here false x xs e = cc
-
-kept_there : {X : Type 0} (b : Bool) (x : X) (xs : List X) (y : X) → Contains xs y → Contains (cond b (x ∷ xs) xs) y
-kept_there true x xs y c = contains_more x xs y c
-kept_there false x xs y c = c
-
-pub filter_among : {X : Type 0} (p : X → Bool) (xs : List X) (y : X) → Contains xs y → p y ≡ true → Contains (filter p xs) y
-filter_among p [] y c e = absurd (nothing_in y c)
-filter_among {X} p (x ∷ xs) y c e = elim (contains_cons x xs y c) [
-  | inl same ↦ subst (λ (z : X). Contains (filter p (x ∷ xs)) z) same (kept_here (p x) x (filter p xs) (ap p same ∙ e))
-  | inr there ↦ kept_there (p x) x (filter p xs) y (filter_among p xs y there e)
-]
+filter_parts p xs y c = (Contains-filtered p xs y c, passes-filtered p xs y c)
 
 different_kept : {X : Type 0} (b : Bool) (x : X) (xs : List X) → (¬ Contains xs x) → Different xs → Different (cond b (x ∷ xs) xs)
 different_kept true x xs n h = (n, h)
@@ -99,7 +73,7 @@ record Around {X : Type 0} (ys : List X) (x : X) : Type 0 where
 
 around : {X : Type 0} (ys : List X) (x : X) → Contains ys x → Around ys x
 around [] x c = absurd (nothing_in x c)
-around {X} (y ∷ ys) x c = elim (contains_cons y ys x c) [
+around {X} (y ∷ ys) x c = elim (Contains-cases y ys x c) [
   | inl same ↦ record { front = []; back = ys; is = ap (λ (z : X). z ∷ ys) same }
   | inr there ↦ let a = around ys x there in record { front = y ∷ a.front; back = a.back; is = ap (λ (zs : List X). y ∷ zs) a.is }
 ]
@@ -107,7 +81,7 @@ around {X} (y ∷ ys) x c = elim (contains_cons y ys x c) [
 elsewhere : {X : Type 0} (front back : List X) (x y : X) → Contains (front ++ x ∷ back) y → (x ≡ y → ⊥) → Contains (front ++ back) y
 elsewhere front back x y c other = elim (Contains-append_cases front (x ∷ back) y c) [
   | inl here ↦ Contains-append_left front back y here
-  | inr there ↦ elim (contains_cons x back y there) [
+  | inr there ↦ elim (Contains-cases x back y there) [
     | inl same ↦ absurd (other same)
     | inr behind ↦ Contains-append_right front back y behind
   ]
@@ -117,8 +91,8 @@ elsewhere front back x y c other = elim (Contains-append_cases front (x ∷ back
 pub no_longer : {X : Type 0} (xs ys : List X) → Different xs → ((x : X) → Contains xs x → Contains ys x) → length xs ≤ length ys
 no_longer [] ys h f = omega arith
 no_longer {X} (x ∷ xs) ys h f =
-    let a = around ys x (f x (contains_first x xs)) in
+    let a = around ys x (f x (Contains-first x xs)) in
     let less : length xs ≤ length (a.front ++ a.back) = no_longer xs (a.front ++ a.back) h.1 (λ (y : X) (c : Contains xs y).
-    elsewhere a.front a.back x y (subst (λ (zs : List X). Contains zs y) a.is (f y (contains_more x xs y c)))
+    elsewhere a.front a.back x y (subst (λ (zs : List X). Contains zs y) a.is (f y (Contains-behind x xs y c)))
     (λ (e : x ≡ y). h.0 (subst (λ (z : X). Contains xs z) (sym e) c))) in
     omega (arith, ap length a.is, length-append a.front (x ∷ a.back), length-append a.front a.back)

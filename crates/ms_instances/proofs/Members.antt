@@ -3,12 +3,12 @@ use Rattle.std.proofs.Common.{◌≡◌, Bool, true, false, inl, inr, ◌⊎◌,
 use Rattle.std.specs.Prelude.{Contains}
 use Rattle.std.specs.List.{filter_map, cons_option}
 use Rattle.std.proofs.lemmas.List.Elements.{Contains-append_cases, Contains-append_right, All-weaker, All-contains_itself}
+use Rattle.ms_base.proofs.Lists.{Contains-behind, Contains-cases, Contains-first}
 use Rattle.ms_tree.specs.Tree.{Tree}
 use Rattle.ms_core.specs.declared.rule.RuleKind.{RuleKind}
 use Rattle.ms_core.specs.declared.rule.CoreRule.{CoreRule}
 use Rattle.ms_copies.specs.Evaluating.{Chosen}
 use Rattle.ms_copies.specs.InOrder.{choices}
-use Rattle.ms_copies.proofs.Integers.{the_one, contains_first}
 use Rattle.ms_copies.proofs.Listed.{flat_parts, flat_among}
 use Rattle.ms_instances.specs.Instances.{Said}
 use Rattle.ms_instances.specs.Listing.{said_if, said_of, said_by_rule, all_said}
@@ -60,40 +60,31 @@ said_no_neg kind true None pos neg e = refl
 said_no_neg kind true (Some h) None neg e = refl
 said_no_neg kind true (Some h) (Some p) neg e = ap (λ x. said_if kind true (Some h) (Some p) x) e
 
-pub contains_cons : {X : Type 0} (x : X) (xs : List X) (y : X) → Contains (x ∷ xs) y → (x ≡ y) ⊎ Contains xs y
-contains_cons x xs y h = elim (Contains-append_cases (x ∷ []) xs y h) [
-  | inl here ↦ inl (the_one x y here)
-  | inr there ↦ inr there
-]
-
-pub contains_more : {X : Type 0} (x : X) (xs : List X) (y : X) → Contains xs y → Contains (x ∷ xs) y
-contains_more x xs y h = Contains-append_right (x ∷ []) xs y h
-
 option_parts : {Y : Type 0} (o : Option Y) (ys : List Y) (y : Y) → Contains (cons_option o ys) y → (o ≡ Some y) ⊎ Contains ys y
 option_parts None ys y h = inr h
-option_parts (Some z) ys y h = elim (contains_cons z ys y h) [
+option_parts (Some z) ys y h = elim (Contains-cases z ys y h) [
   | inl same ↦ inl (ap Some same)
   | inr there ↦ inr there
 ]
 
 option_here : {Y : Type 0} (o : Option Y) (ys : List Y) (y : Y) → o ≡ Some y → Contains (cons_option o ys) y
-option_here {Y} o ys y e = subst (λ (p : Option Y). Contains (cons_option p ys) y) (sym e) (contains_first y ys)
+option_here {Y} o ys y e = subst (λ (p : Option Y). Contains (cons_option p ys) y) (sym e) (Contains-first y ys)
 
 option_there : {Y : Type 0} (o : Option Y) (ys : List Y) (y : Y) → Contains ys y → Contains (cons_option o ys) y
 option_there None ys y h = h
-option_there (Some z) ys y h = contains_more z ys y h
+option_there (Some z) ys y h = Contains-behind z ys y h
 
 -- the element of which a list of what is given has it
 pub given_parts : {X Y : Type 0} (f : X → Option Y) (xs : List X) (y : Y) → Contains (filter_map f xs) y → (x : X) × Contains xs x × (f x ≡ Some y)
 given_parts f [] y (k, inside, is) = absurd (omega arith)
 given_parts f (x ∷ xs) y h = elim (option_parts (f x) (filter_map f xs) y h) [
-  | inl here ↦ (x, contains_first x xs, here)
-  | inr there ↦ let p = given_parts f xs y there in (p.0, contains_more x xs p.0 p.1, p.2)
+  | inl here ↦ (x, Contains-first x xs, here)
+  | inr there ↦ let p = given_parts f xs y there in (p.0, Contains-behind x xs p.0 p.1, p.2)
 ]
 
 pub given_among : {X Y : Type 0} (f : X → Option Y) (xs : List X) (x : X) (y : Y) → Contains xs x → f x ≡ Some y → Contains (filter_map f xs) y
 given_among f [] x y (k, inside, is) e = absurd (omega arith)
-given_among {X} {Y} f (z ∷ xs) x y h e = elim (contains_cons z xs x h) [
+given_among {X} {Y} f (z ∷ xs) x y h e = elim (Contains-cases z xs x h) [
   | inl same ↦ option_here (f z) (filter_map f xs) y (ap f same ∙ e)
   | inr there ↦ option_there (f z) (filter_map f xs) y (given_among f xs x y there e)
 ]

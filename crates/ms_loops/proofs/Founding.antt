@@ -20,7 +20,7 @@ use Rattle.ms_things.specs.Loops.{IsWithinComponent, supports_from_outside}
 use Rattle.ms_loops.specs.Founded.{IsFoundedModel, IsOverBase, IsUnfounded}
 use Rattle.ms_loops.proofs.Choosing.{Table, assume_table}
 use Rattle.ms_loops.proofs.Counting.{count, strictly_fewer}
-use Rattle.ms_loops.proofs.Walks.{reaches_more, reaches_self, reaches_through}
+use Rattle.ms_join.proofs.Walks.{reaches_more, reaches_self, reaches_through}
 
 was_false : (b : Bool) → IsTrue (not b) → b ≡ false
 was_false true holds = absurd (false≢true holds)

@@ -1,4 +1,3 @@
-mod Walks
 mod Choosing
 mod Counting
 mod Unfounded

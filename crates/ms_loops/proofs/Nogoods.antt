@@ -25,7 +25,7 @@ use Rattle.ms_possible.proofs.Lists.{All-unmap}
 use Rattle.ms_loops.proofs.Members.{any_at, all_kept, all_passing, place_of}
 use Rattle.ms_loops.proofs.Founding.{if_at}
 use Rattle.ms_loops.proofs.Unfounded.{head_below}
-use Rattle.ms_loops.proofs.Walks.{reaches_self}
+use Rattle.ms_join.proofs.Walks.{reaches_self}
 use Rattle.ms_loops.proofs.Writing.{Holds, all_hold, written}
 
 both : (b : Bool) → b ≡ true → b ≡ false → ⊥

@@ -1,4 +1,3 @@
-mod Filtered
 mod ListOrder
 mod ShownLists
 pub mod LineFronts

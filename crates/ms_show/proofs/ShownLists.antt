@@ -13,7 +13,7 @@ use Rattle.ms_join.specs.AnswerSets.{IsAtomSet}
 use Rattle.ms_solving.specs.Listing.{HasAtom}
 use Rattle.ms_term.specs.TermOrder.{IsInTermOrder}
 use Rattle.ms_show.specs.ShownLists.{AreIn, IsShownOf, name_of, shown_of}
-use Rattle.ms_show.proofs.Filtered.{filtered_contained, filtered_passes, contains_filtered}
+use Rattle.ms_base.proofs.Lists.{Contains-filter, Contains-filtered, passes-filtered}
 
 Contains-map : {X Y : Type 0} (f : X → Y) (xs : List X) (x : X) → Contains xs x → Contains (map f xs) (f x)
 Contains-map f xs x (k, h, e) = (
@@ -52,7 +52,7 @@ to_shown : (table : List Tree) (shows : Tree → Bool) (base set : List ℕ) (n 
 to_shown table shows base set n over c =
     let p : ℕ → Bool = λ m. shows (term_at table m) in
     let names = map (name_of base) set in
-    (filtered_passes p names n c, atom_of table base set n over (filtered_contained p names n c))
+    (passes-filtered p names n c, atom_of table base set n over (Contains-filtered p names n c))
 
 -- the name of a shown atom of the set
 from_shown : (table : List Tree) (shows : Tree → Bool) (base set : List ℕ) (t : Tree) → IsAtomSet (length base) set → IsTrue (shows t) → HasAtom (map (term_at table) base) set t → (n : ℕ) × Contains (shown_of table shows base set) n × (term_at table n ≡ t)
@@ -62,7 +62,7 @@ from_shown table shows base set t over is_shown (k, a, h, e, at) =
     let n = name_of base a in
     let named : term_at table n ≡ t = sym (get_or-map (term_at table) base a 0 t within) ∙ get_or_from_slice_get (map (term_at table) base) a t t at in
     let listed : Contains (map (name_of base) set) n = Contains-map (name_of base) set a (k, h, e) in
-    (n, contains_filtered p (map (name_of base) set) n listed (ap shows named ∙ is_shown), named)
+    (n, Contains-filter p (map (name_of base) set) n listed (ap shows named ∙ is_shown), named)
 
 pub IsShownOf-from_order : (table : List Tree) (shows : Tree → Bool) (base set ordered : List ℕ) → AreIn table base → IsAtomSet (length base) set → IsInTermOrder table (shown_of table shows base set) ordered → IsShownOf table shows base set ordered
 IsShownOf-from_order table shows base set ordered in_base over order = record {
