@@ -2,7 +2,7 @@
 use Rattle.std.proofs.Common.{◌≡◌, ℤ, ◌≤ℤ◌, inl, inr, List, [], ◌∷◌, ◌++◌, map, Option, Some, None, refl, sym, ap, ◌∙◌, subst, arith}
 use Rattle.std.specs.Prelude.{Contains, flat_map}
 use Rattle.std.proofs.lemmas.List.Elements.{Contains-append_cases, Contains-append_left, Contains-append_right}
-use Rattle.ms_base.proofs.Lists.{Contains-first}
+use Rattle.ms_base.proofs.Lists.{Contains-first, Contains-map}
 use Rattle.ms_tree.specs.Tree.{Tree, number, text, function}
 use Rattle.ms_core.specs.declared.rule.Range.{Range}
 use Rattle.ms_copies.specs.Evaluating.{Chosen, integer, value}
@@ -82,4 +82,4 @@ choices_to [] before (n ∷ c) h = absurd h
 choices_to (range ∷ ranges) before [] h = absurd h
 choices_to (range ∷ ranges) before (n ∷ c) h =
     flat_among (λ n. map (λ c. n ∷ c) (choices ranges (before ++ n ∷ []))) (integers_within before range) n (n ∷ c) (within_to before range n h.0)
-    (map_among (λ c. n ∷ c) (choices ranges (before ++ n ∷ [])) c (choices_to ranges (before ++ n ∷ []) c h.1))
+    (Contains-map (λ c. n ∷ c) (choices ranges (before ++ n ∷ [])) c (choices_to ranges (before ++ n ∷ []) c h.1))
