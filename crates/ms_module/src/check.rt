@@ -16,7 +16,6 @@ use ms_join::ground_module::GroundModule;
 use ms_join::ground_rule::GroundRule;
 use ms_join::join_fault::JoinFault;
 use ms_term::Terms;
-use std::alloc::Global;
 
 impl Join {
     /// Whether a module can be joined. The base is that of the join with the module's new atoms, and its terms are those
@@ -24,19 +23,13 @@ impl Join {
     /// depend on and what depends on them.
     ///
     /// Errors: the first that holds of the faults, with the least atoms in term order, or want of memory.
-    pub fn check(
-        &self,
-        alloc: Global,
-        terms: &Terms,
-        base: &AtomBase,
-        m: &GroundModule,
-    ) -> Result<(), JoinFault>
+    pub fn check(&self, terms: &Terms, base: &AtomBase, m: &GroundModule) -> Result<(), JoinFault>
         requires well_formed { IsWellFormed self.now.atoms m.now }
         requires named { All (λ t. t < length terms.now) base.now }
         requires base { length base.now ≡ self.now.atoms + m.now.fresh }
         ensures { Checks (names_of terms.now base.now) self.now m.now result }
     {
-        match self.fault(alloc, terms, base, m) {
+        match self.fault(terms, base, m) {
             Ok(None) => Ok(()),
             Ok(Some(fault)) => Err(fault),
             Err(OutOfMemory) => Err(JoinFault::OutOfMemory),
@@ -45,7 +38,6 @@ impl Join {
 
     fn fault(
         &self,
-        alloc: Global,
         terms: &Terms,
         base: &AtomBase,
         m: &GroundModule,
@@ -55,15 +47,15 @@ impl Join {
         requires base { length base.now ≡ self.now.atoms + m.now.fresh }
         ensures { IfOk result (Finds (names_of terms.now base.now) self.now m.now) }
     {
-        let is_many = self.has_too_many(alloc, base.len(), m.rules.as_slice())?;
+        let is_many = self.has_too_many(base.len(), m.rules.as_slice())?;
         if is_many {
             return Ok(Some(JoinFault::TooMany));
         }
-        let redefined = self.first_redefined(alloc, terms, base, m)?;
+        let redefined = self.first_redefined(terms, base, m)?;
         if let Some(atom) = redefined {
             return Ok(Some(JoinFault::Redefined { atom }));
         }
-        let found = self.cross_loop(alloc, terms, base, m)?;
+        let found = self.cross_loop(terms, base, m)?;
         match found {
             Some(pair) => Ok(Some(JoinFault::CrossLoop {
                 new_head: pair.new_head,
@@ -76,7 +68,6 @@ impl Join {
     /// The least head that is an output, where there is one.
     fn first_redefined(
         &self,
-        alloc: Global,
         terms: &Terms,
         base: &AtomBase,
         m: &GroundModule,
@@ -85,7 +76,7 @@ impl Join {
         requires heads { All (λ a. a < length base.now) m.now.heads }
         ensures { IfOk result (λ first. MatchOption first ((h : ℕ) → ¬ IsRedefined self.now m.now h) (IsLeast (names_of terms.now base.now) (IsRedefined self.now m.now))) }
     {
-        let redefined = self.outputs_among(alloc, m.heads.as_slice())?;
+        let redefined = self.outputs_among(m.heads.as_slice())?;
         match least(terms, base, redefined.as_slice()) {
             Some(atom) => Ok(Some(atom)),
             None => Ok(None),
@@ -93,25 +84,20 @@ impl Join {
     }
 
     /// Whether there are more things than there may be with these rules and so many atoms.
-    fn has_too_many(
-        &self,
-        alloc: Global,
-        atoms: u32,
-        rules: &[GroundRule],
-    ) -> Result<bool, OutOfMemory>
+    fn has_too_many(&self, atoms: u32, rules: &[GroundRule]) -> Result<bool, OutOfMemory>
         requires { ArePlain rules.now }
         ensures tells { IfOk result (λ many. IsTrue many ↔ HasTooMany atoms (self.now.rules ++ rules.now)) }
         ensures plain { IfOk result (λ many. ArePlain (self.now.rules ++ rules.now)) }
     {
-        let bodies = self.bodies.count_with(alloc, rules)?;
+        let bodies = self.bodies.count_with(self.alloc, rules)?;
         Ok(bodies.saturating_add(atoms as usize) > MOST_THINGS)
     }
 
     /// The outputs among the atoms.
-    fn outputs_among(&self, alloc: Global, atoms: &[AtomId]) -> Result<Vec<AtomId>, OutOfMemory>
+    fn outputs_among(&self, atoms: &[AtomId]) -> Result<Vec<AtomId>, OutOfMemory>
         ensures { IfOk result (λ v. AreThose atoms.now (IsOutput self.now) v.items) }
     {
-        let mut found = Vec::new(alloc);
+        let mut found = Vec::new(self.alloc);
         for a in atoms {
             if self.state.is_output(*a) {
                 found.push(*a)?;

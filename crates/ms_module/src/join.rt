@@ -27,7 +27,7 @@ pub struct Join {
     /// The bodies of the rules.
     pub(crate) bodies: Bodies,
     pub(crate) dependencies: Dependencies,
-    alloc: Global,
+    pub(crate) alloc: Global,
 }
 
 impl Model for Join {

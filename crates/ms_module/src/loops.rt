@@ -28,7 +28,6 @@ impl Join {
     /// The least head in one component with an output, and the least such output, where there are such.
     pub(crate) fn cross_loop(
         &self,
-        alloc: Global,
         terms: &Terms,
         base: &AtomBase,
         m: &GroundModule,
@@ -38,26 +37,25 @@ impl Join {
         requires base { length base.now ≡ self.now.atoms + m.now.fresh }
         ensures { IfOk result (FindsLoop (names_of terms.now base.now) self.now m.now) }
     {
-        let starts = self.state.old_among(alloc, m.heads.as_slice())?;
+        let starts = self.state.old_among(self.alloc, m.heads.as_slice())?;
         if starts.is_empty() {
             return Ok(None);
         }
         let rules = m.rules.as_slice();
         let cone = Cone::around(
-            alloc,
+            self.alloc,
             &self.dependencies,
             rules,
             base.len(),
             starts.as_slice(),
         )?;
-        let found = self.loop_in(alloc, terms, base, m.heads.as_slice(), &cone)?;
+        let found = self.loop_in(terms, base, m.heads.as_slice(), &cone)?;
         Ok(found)
     }
 
     /// The same, of a cone that has the heads and outputs of all loops.
     fn loop_in(
         &self,
-        alloc: Global,
         terms: &Terms,
         base: &AtomBase,
         heads: &[AtomId],
@@ -68,12 +66,12 @@ impl Join {
         requires base { self.now.atoms ≤ length base.now }
         ensures { IfOk result (FindsInCone (names_of terms.now base.now) self.now cone.now heads.now) }
     {
-        let outputs = self.member_outputs(alloc, cone)?;
-        let numbers = numbers_of(alloc, cone, outputs.as_slice())?;
-        let looping = with_number_among(alloc, cone, &numbers, heads)?;
+        let outputs = self.member_outputs(cone)?;
+        let numbers = numbers_of(self.alloc, cone, outputs.as_slice())?;
+        let looping = with_number_among(self.alloc, cone, &numbers, heads)?;
         match least(terms, base, looping.as_slice()) {
             Some(new_head) => {
-                let mate = self.least_mate(alloc, terms, base, outputs.as_slice(), cone, new_head)?;
+                let mate = self.least_mate(terms, base, outputs.as_slice(), cone, new_head)?;
                 match mate {
                     Some(old) => Ok(Some(CrossLoop { new_head, old })),
                     None => Ok(None),
@@ -86,7 +84,6 @@ impl Join {
     /// The least of the outputs in the component of an atom, where there is one.
     fn least_mate(
         &self,
-        alloc: Global,
         terms: &Terms,
         base: &AtomBase,
         outputs: &[AtomId],
@@ -99,7 +96,7 @@ impl Join {
         requires member { HasNumber cone.now a }
         ensures { IfOk result (λ mate. MatchOption mate ((b : ℕ) → ¬ LoopsInCone self.now cone.now a b) (IsLeast (names_of terms.now base.now) (LoopsInCone self.now cone.now a))) }
     {
-        let mates = in_component_of(alloc, cone, a, outputs)?;
+        let mates = in_component_of(self.alloc, cone, a, outputs)?;
         match least(terms, base, mates.as_slice()) {
             Some(old) => Ok(Some(old)),
             None => Ok(None),
@@ -107,10 +104,10 @@ impl Join {
     }
 
     /// The outputs in a cone.
-    fn member_outputs(&self, alloc: Global, cone: &Cone) -> Result<Vec<AtomId>, OutOfMemory>
+    fn member_outputs(&self, cone: &Cone) -> Result<Vec<AtomId>, OutOfMemory>
         ensures { IfOk result (λ v. AreThose cone.now.members (IsOutput self.now) v.items) }
     {
-        let mut found = Vec::new(alloc);
+        let mut found = Vec::new(self.alloc);
         for place in 0..cone.len() {
             let a = cone.member(place);
             if self.state.is_output(a) {

@@ -92,7 +92,7 @@ fn join_module(
 {
     // The join says that its rules are over its base.
     let _ = join.rules();
-    match join.check(alloc, terms, base, ground_module) {
+    match join.check(terms, base, ground_module) {
         Ok(()) => {
             let atoms = ground_module.names.len() as u64;
             let rules = ground_module.rules.len() as u64;
