@@ -11,6 +11,6 @@ pub mod TermSort
 pub mod Inserting
 pub mod Texts
 pub mod FrontLaws
-pub mod Bounds
+pub mod Pieces
 pub mod PrintFronts
 pub mod Whole

@@ -1,10 +1,10 @@
 -- The arguments of the functions of a table are in the table.
 use Rattle.std.proofs.Common.{◌≡◌, ◌∙◌, ℕ, ◌<◌, ◌≤◌, pos, List, [], ◌∷◌, length, get_or, refl, sym, ap, subst, arith}
 use Rattle.std.proofs.lemmas.List.{get_or_default}
-use Rattle.ms_tree.specs.Tree.{Tree, number, text, function, Trees, no_tree, tree}
+use Rattle.ms_tree.specs.Tree.{Tree, number, text, function, Trees, no_tree}
 use Rattle.ms_term.specs.declared.node.Node.{Node}
 use Rattle.ms_term.specs.declared.node.Node.TheVariants as node
-use Rattle.ms_term.specs.Terms.{AllBelow, AreWhole, HasEach, HasNo, term_at, terms_at}
+use Rattle.ms_term.specs.Terms.{AllBelow, AreWhole, HasEach, term_at, terms_at}
 use Rattle.ms_term.specs.Tables.{Describes, IsTable}
 
 there : (ts : List Tree) (i : ℕ) (is : List ℕ) → AllBelow i is → i ≤ length ts → HasEach ts (terms_at ts is)

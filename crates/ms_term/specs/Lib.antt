@@ -4,6 +4,8 @@ pub mod TreeCode
 pub mod Words
 pub mod Comparing
 pub mod Fronts
+pub mod Closings
+pub mod Pieces
 pub mod Shapes
 pub mod Tables
 pub mod Wanted

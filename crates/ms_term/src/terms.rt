@@ -252,6 +252,10 @@ impl Terms {
         }
     }
 
+    pub(crate) fn alloc(&self) -> Global {
+        self.alloc
+    }
+
     // The size of a function with these arguments.
     fn size_over(&self, arguments: &[TermId]) -> u64
         requires { AllBelow (length self.now) arguments.now }

@@ -2,6 +2,7 @@ ghost use Rattle.std.specs.Prelude.{◌≡◌, ◌∷◌, [], ◌++◌, List, On
 ghost use Rattle.ms_term.specs.Fronts.{AppendsFront};
 ghost use Rattle.ms_tree.specs.Tree.{Tree, number, text};
 ghost use Rattle.ms_tree.specs.Text.{tree_text, escaped, escaped_byte, no_arguments_text, closing_text};
+ghost use Rattle.ms_term.specs.Closings.{closing_bytes};
 ghost use Rattle.ms_term.specs.Terms.{terms_at};
 
 use crate::term_id::TermId;
@@ -66,21 +67,40 @@ pub(crate) fn end_without_arguments(name: &[u8]) -> &'static [u8]
     }
 }
 
-// What ends the text of a function that has these arguments after its first.
-pub(crate) fn closing(name: &[u8], after: &[TermId]) -> &'static [u8]
-    ensures { (ts : List Tree) → result.now ≡ closing_text name.now (terms_at ts after.now) }
-{
-    match name {
-        [] => closing_of_tuple(after),
-        _ => b")",
+/// What ends the text of a function.
+#[derive(Clone, Copy)]
+pub(crate) enum Closing {
+    Plain,
+    /// A tuple of one has a `,` before the parenthesis.
+    OfOne,
+}
+
+impl Closing {
+    pub(crate) fn bytes(self) -> &'static [u8]
+        ensures { result.now ≡ closing_bytes self }
+    {
+        match self {
+            Closing::Plain => b")",
+            Closing::OfOne => b",)",
+        }
     }
 }
 
-fn closing_of_tuple(after: &[TermId]) -> &'static [u8]
-    ensures { (ts : List Tree) → result.now ≡ closing_text [] (terms_at ts after.now) }
+// What ends the text of a function that has these arguments after its first.
+pub(crate) fn closing_of(name: &[u8], after: &[TermId]) -> Closing
+    ensures { (ts : List Tree) → closing_bytes result ≡ closing_text name.now (terms_at ts after.now) }
+{
+    match name {
+        [] => closing_of_tuple(after),
+        _ => Closing::Plain,
+    }
+}
+
+fn closing_of_tuple(after: &[TermId]) -> Closing
+    ensures { (ts : List Tree) → closing_bytes result ≡ closing_text [] (terms_at ts after.now) }
 {
     match after {
-        [] => b",)",
-        _ => b")",
+        [] => Closing::OfOne,
+        _ => Closing::Plain,
     }
 }
