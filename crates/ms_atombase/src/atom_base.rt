@@ -4,8 +4,9 @@ ghost use Rattle.ms_atombase.specs.Bases.{IsPlaceOf, Interns};
 
 use indexmap::IndexSet;
 use ms_base::atom_id::AtomId;
+use ms_base::limits::MOST_SYMBOLS;
 use ms_base::memory::OutOfMemory;
-use ms_term::{MOST_SYMBOLS, TermId, Terms};
+use ms_term::{TermId, Terms};
 use std::alloc::Global;
 use std::marker::Model;
 

@@ -1,5 +1,6 @@
 -- The terms of a table by their names, which are numbers.
 use Rattle.std.specs.Prelude.{◌≡◌, ℕ, ◌-◌, ◌^◌, ◌<◌, ◌≤◌, ◌⊎◌, min, pos, List, [], ◌∷◌, ◌++◌, length, slice_index_or, ⊤, ℤ, Option, Some, None}
+pub use Rattle.ms_base.specs.Limits.{most_symbols}
 use Rattle.ms_tree.specs.Tree.{Tree, number, text, function, Trees, no_tree, tree}
 use Rattle.ms_tree.specs.Size.{tree_size}
 
@@ -52,10 +53,7 @@ HasEach ts (tree t rest) = (¬ HasNo ts t) × HasEach ts rest
 abbrev pub AreWhole : List Tree → Type 0
 AreWhole ts = (i : ℕ) (f : List ℕ) (args : Trees) → i < length ts → term_at ts i ≡ function f args → HasEach ts args
 
--- the number of symbols from which on a term is large
-abbrev pub most_symbols : ℕ
-most_symbols = 2000
-
+-- a term of more symbols than an atom may have
 abbrev pub IsLarge : Tree → Type 0
 IsLarge t = most_symbols < tree_size t
 

@@ -18,6 +18,5 @@ pub use arithmetic::arith;
 pub use ms_base::memory::OutOfMemory;
 pub use ms_tree::Op;
 pub use order::{compare, compare_lists, in_term_order};
-pub use table::MOST_SYMBOLS;
 pub use term_id::TermId;
 pub use terms::{TermMark, Terms};

@@ -8,11 +8,9 @@ use crate::node::Node;
 use crate::term_id::TermId;
 use crate::wanted::Wanted;
 use indexmap::IndexSet;
+use ms_base::limits::MOST_SYMBOLS;
 use ms_base::memory::OutOfMemory;
 use std::alloc::Global;
-
-/// A term is large where it has more symbols.
-pub const MOST_SYMBOLS: u64 = 2000;
 
 /// Nodes, and how many of them stand before the first whose term is large.
 #[derive(Drop)]
