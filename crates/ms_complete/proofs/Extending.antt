@@ -1,8 +1,7 @@
 -- The steps by which a module is taken.
-use Rattle.std.proofs.Common.{◌≡◌, ◌∙◌, ◌⊎◌, ◌+◌, ◌<◌, ◌≤◌, ℕ, List, ◌++◌, length, refl, sym, ap, subst, inl, inr}
-use Rattle.std.specs.List.{All, Any, Contains}
+use Rattle.std.proofs.Common.{◌≡◌, ◌∙◌, ◌⊎◌, ◌+◌, ◌<◌, ◌≤◌, ℕ, List, ◌++◌, length, ap, subst, inl, inr}
+use Rattle.std.specs.List.{Any, Contains}
 use Rattle.std.proofs.lemmas.List.Elements.{All-weaker}
-use Rattle.ms_lits.specs.Literals.{Nogood}
 use Rattle.ms_nogood.specs.Store.{Store}
 use Rattle.ms_join.specs.declared.ground_rule.GroundRule.{GroundRule}
 use Rattle.ms_join.specs.declared.ground_module.GroundModule.{GroundModule}
@@ -16,7 +15,7 @@ use Rattle.ms_complete.specs.Rules.{IsAtomAt, IsNumbered, NewSay, RuleSays, AreS
 use Rattle.ms_complete.specs.Sets.{Match}
 use Rattle.ms_complete.specs.Completing.{Completes}
 use Rattle.ms_complete.proofs.Lists.{any_weaker}
-use Rattle.ms_complete.proofs.NumberLaws.{declares_then, declares_weaker, keeps_member, numbered_stays}
+use Rattle.ms_complete.proofs.NumberLaws.{declares_then, keeps_member, numbered_stays}
 use Rattle.ms_complete.proofs.Stores.{adds_then, keeps_keys}
 use Rattle.ms_complete.proofs.Taking.{IsFrom, Declared}
 use Rattle.ms_complete.proofs.Completed.{are_of}

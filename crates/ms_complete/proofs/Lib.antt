@@ -11,3 +11,5 @@ pub mod Completed
 pub mod BodyLaws
 pub mod Adding
 pub mod Extending
+pub mod LineLaws
+pub mod NoteLaws
