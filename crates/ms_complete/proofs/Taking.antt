@@ -18,15 +18,11 @@ use Rattle.ms_join.specs.Things.Thing.{atom, body, tuple, aggregate}
 use Rattle.ms_things.specs.Numbers.{AreThings}
 use Rattle.ms_complete.specs.declared.key.NumberedRule.{NumberedRule}
 use Rattle.ms_complete.specs.Keys.{plain_body}
-use Rattle.ms_complete.specs.Numbering.{Numbering, AreDeclared, Declares, IsAtomOf, IsNewAtom, IsOfRule, IsHeadThing}
+use Rattle.ms_complete.specs.Numbering.{Numbering, AreDeclared, Declares, IsAtomOf, IsNewAtom, IsOfRule, IsHeadThing, IsFrom}
 use Rattle.ms_complete.specs.Rules.{IsNumbered}
 use Rattle.ms_complete.specs.Sets.{Match}
 use Rattle.ms_complete.proofs.Lists.{any_from, any_left, any_right, any_cases, any_none, member_of, some_at, none_is_some}
 use Rattle.ms_complete.proofs.NumberLaws.{keeps_member}
-
--- what a module may declare
-abbrev pub IsFrom : GroundModule → Thing → Type 0
-IsFrom m t = IsNewAtom m.first_new m.fresh t ⊎ (Any (λ rule. IsOfRule rule t) m.rules ⊎ IsAtomOf m.heads t)
 
 -- the things of a module are numbered
 pub record Declared (old new : Numbering) (m : GroundModule) (rules : List NumberedRule) : Type 0 where
