@@ -6,8 +6,10 @@ mod key;
 mod nogoods;
 mod notes;
 mod numbers;
+mod releasing;
 mod supports;
 mod written;
 
 pub use complete::Complete;
 pub use ms_base::memory::OutOfMemory;
+pub use releasing::release_completes;
