@@ -1,7 +1,7 @@
 -- Each thing of a module is declared once the module is taken.
-use Rattle.std.proofs.Common.{◌≡◌, ◌⊎◌, ◌+◌, ◌<◌, ◌≤◌, ℕ, List, Option, Some, None, refl, sym, subst, inl, inr}
+use Rattle.std.proofs.Common.{◌≡◌, ◌+◌, ◌<◌, ◌≤◌, ℕ, List, Option, Some, None, refl, sym, subst, inl, inr}
 use Rattle.std.specs.Prelude.{slice_get}
-use Rattle.std.specs.List.{All, Any, Contains}
+use Rattle.std.specs.List.{Any, Contains}
 use Rattle.std.proofs.lemmas.List.Elements.{All-contains}
 use Rattle.ms_join.specs.declared.ground_rule.GroundRule.{GroundRule}
 use Rattle.ms_join.specs.declared.ground_module.GroundModule.{GroundModule}

@@ -13,7 +13,7 @@ use Rattle.ms_lits.specs.declared.lit.Lit.{Lit}
 use Rattle.ms_lits.specs.contracts.lit.LitPartialEq.TheImpl as derived
 use Rattle.ms_lits.specs.contracts.lit.LitEq.TheImpl.Laws.{laws-law}
 use Rattle.ms_complete.specs.Lines.{line_place}
-use Rattle.ms_complete.specs.Notes.{StandsBefore}
+use Rattle.ms_complete.specs.Notes.{ComesBefore}
 use Rattle.ms_complete.specs.Sets.{Match}
 use Rattle.ms_complete.proofs.Lists.{all_from, any_from, member_of}
 use Rattle.ms_complete.proofs.Writing.{same_lit}
@@ -81,7 +81,7 @@ before v w false true less = inl (omega (arith, less))
 before v w false false less = inl (omega (arith, less))
 
 -- Literals that are sorted by their places, each once.
-pub line_in_order : (lits : List Lit) → IsNonDecreasingBy line_place lits → AllPairs StandsBefore (dedup lit_eq lits)
+pub line_in_order : (lits : List Lit) → IsNonDecreasingBy line_place lits → AllPairs ComesBefore (dedup lit_eq lits)
 line_in_order lits sorted i j d less within =
     let at = get_or (dedup lit_eq lits) in
     let rise : line_place (at i d) < line_place (at j d) = dedup_rises lit_eq line_place apart lits sorted i j d less within in

@@ -1,19 +1,17 @@
 -- The completion nogoods of a join of which an input is released.
-use Rattle.std.proofs.Common.{◌≡◌, ◌∙◌, ◌⊎◌, ◌<◌, ℕ, nat_eq, List, [], ◌∷◌, Option, Some, None, option_map, map, refl, sym, ap, subst, inl, inr, arith}
-use Rattle.std.specs.Prelude.{slice_get, IfSome}
-use Rattle.std.specs.List.{All, Any, Contains, filter}
+use Rattle.std.proofs.Common.{◌≡◌, ◌∙◌, ◌⊎◌, ◌<◌, ℕ, List, [], ◌∷◌, Some, None, option_map, map, sym, ap, subst, inl, inr, arith}
+use Rattle.std.specs.Prelude.{IfSome}
+use Rattle.std.specs.List.{Contains, filter}
 use Rattle.std.proofs.lemmas.Bool.{cases_eq}
 use Rattle.std.proofs.lemmas.List.Elements.{All-contains}
-use Rattle.ms_lits.specs.declared.lit.Lit.{Lit}
 use Rattle.ms_lits.specs.Literals.{Nogood}
-use Rattle.ms_nogood.specs.declared.kind.Kind.{Kind}
 use Rattle.ms_nogood.specs.declared.kind.Kind.TheVariants.{Base}
 use Rattle.ms_nogood.specs.Store.{Store, Stored, Wakes, slot_at}
 use Rattle.ms_join.specs.declared.ground_rule.GroundRule.{GroundRule}
 use Rattle.ms_join.specs.declared.ground_rule.Input.{Input}
 use Rattle.ms_join.specs.Modules.{Join, IsInput, IsJoin, IsOutput, IsReleased}
-use Rattle.ms_join.specs.Things.{Body, Tuple, Thing, IsThing, body_of}
-use Rattle.ms_join.specs.Things.Thing.{atom, body, tuple, aggregate}
+use Rattle.ms_join.specs.Things.{Thing, IsThing, body_of}
+use Rattle.ms_join.specs.Things.Thing.{atom, body, tuple}
 use Rattle.ms_things.specs.Numbers.{AreThings}
 use Rattle.ms_things.specs.Signs.{Signed, IsNogoodOf, plus, minus}
 use Rattle.ms_things.specs.Completion.{Completion, whole_body, part_of_body, no_condition, condition_of_tuple, unsupported, no_head, broken, IsOf, signs_of, IsCompletionNogood}
@@ -21,7 +19,7 @@ use Rattle.ms_complete.specs.Bases.{HasBase, base_of}
 use Rattle.ms_complete.specs.Completing.{AreOf}
 use Rattle.ms_complete.specs.Releasing.{IsHeldFor}
 use Rattle.ms_complete.specs.Sets.{Writes}
-use Rattle.ms_complete.proofs.Lists.{any_from, any_here, all_from, member_here, same_some, none_is_some}
+use Rattle.ms_complete.proofs.Lists.{any_from, all_from, same_some, none_is_some}
 use Rattle.ms_complete.proofs.Writing.{nogood_from, writes_from, writes_once}
 use Rattle.ms_complete.proofs.Carried.{filter_none, heads, if_some, match_one, other_head}
 

@@ -19,13 +19,13 @@ use Rattle.ms_complete.specs.Sets.{Match}
 abbrev pub AreNamed : Numbering → List Tree → Type 0
 AreNamed n terms = (a : ℕ) → Contains n.things (atom a) → IsSomeAnd (slice_get n.names a) (λ name. name < length terms)
 
--- The literal stands before the other one in a line.
-abbrev pub StandsBefore : Lit → Lit → Type 0
-StandsBefore l m = (l.var < m.var) ⊎ ((l.var ≡ m.var) × (l.truth ≡ true) × (m.truth ≡ false))
+-- The literal comes before the other one in a line.
+abbrev pub ComesBefore : Lit → Lit → Type 0
+ComesBefore l m = (l.var < m.var) ⊎ ((l.var ≡ m.var) × (l.truth ≡ true) × (m.truth ≡ false))
 
 -- The line says exactly this of things, each once.
 pub record IsLineOf (things : List Thing) (signs : List Signed) (line : List Lit) : Type 0 where
-  pub in_order : AllPairs StandsBefore line
+  pub in_order : AllPairs ComesBefore line
   pub says : Match (IsFor things) signs line
 
 abbrev pub TellsAtom : Numbering → List Tree → ℕ → Note → Type 0

@@ -56,6 +56,7 @@ IsHeadThing (Some h) t = t ≡ atom h
 abbrev pub IsOfRule : GroundRule → Thing → Type 0
 IsOfRule rule t = IsPartOf (plain_body rule) t ⊎ IsHeadThing rule.head t
 
--- a new atom of the module, one of its heads, the body of one of its rules, or an atom of such a rule
+-- a new atom of the module, one of its heads, the body of one of its rules, or an atom of such a rule. Bodies are those of
+-- rules without aggregates
 abbrev pub IsFrom : GroundModule → Thing → Type 0
 IsFrom m t = IsNewAtom m.first_new m.fresh t ⊎ (Any (λ rule. IsOfRule rule t) m.rules ⊎ IsAtomOf m.heads t)

@@ -3,7 +3,7 @@ ghost use Rattle.std.specs.Prelude.{◌≡◌, ◌<◌, ◌↔◌, All, AllPairs
 ghost use Rattle.std.specs.List.{AllZip};
 ghost use Rattle.ms_join.specs.Things.Thing.{atom};
 ghost use Rattle.ms_complete.specs.Keys.{plain};
-ghost use Rattle.ms_complete.specs.Notes.{AreNamed, Tells, TellsAtom, TellsBody, StandsBefore};
+ghost use Rattle.ms_complete.specs.Notes.{AreNamed, Tells, TellsAtom, TellsBody, ComesBefore};
 ghost use Rattle.ms_complete.specs.Lines.{line_place};
 
 use crate::complete::Complete;
@@ -64,7 +64,7 @@ impl Complete {
 
 /// Brings literals into the order of a line, each once.
 fn set_in_line(lits: &mut Vec<Lit>)
-    ensures order { AllPairs StandsBefore lits.new.items }
+    ensures order { AllPairs ComesBefore lits.new.items }
     ensures same { (l : Lit) → Contains lits.new.items l ↔ Contains lits.old.items l }
 {
     lits.sort_unstable_by_key(|lit| place_in_line(*lit));
