@@ -11,6 +11,7 @@ pub mod Completed
 pub mod BodyLaws
 pub mod Adding
 pub mod Brought
+pub mod Assigned
 pub mod Released
 pub mod Extending
 pub mod LineLaws

@@ -12,13 +12,13 @@ use Rattle.ms_join.specs.declared.ground_rule.Input.{Input}
 use Rattle.ms_join.specs.Modules.{Join, IsInput, IsJoin, IsOutput, IsReleased}
 use Rattle.ms_join.specs.Things.{Thing, IsThing, body_of}
 use Rattle.ms_join.specs.Things.Thing.{atom, body, tuple}
-use Rattle.ms_things.specs.Numbers.{AreThings}
 use Rattle.ms_things.specs.Signs.{Signed, IsNogoodOf, plus, minus}
 use Rattle.ms_things.specs.Completion.{Completion, whole_body, part_of_body, no_condition, condition_of_tuple, unsupported, no_head, broken, IsOf, signs_of, IsCompletionNogood}
 use Rattle.ms_complete.specs.Bases.{HasBase, base_of}
 use Rattle.ms_complete.specs.Completing.{AreOf}
-use Rattle.ms_complete.specs.Releasing.{IsHeldFor}
+use Rattle.ms_complete.specs.Steps.{IsHeldFor}
 use Rattle.ms_complete.specs.Sets.{Writes}
+use Rattle.ms_complete.proofs.Assigned.{there, completion_stays, same_things}
 use Rattle.ms_complete.proofs.Lists.{any_from, all_from, same_some, none_is_some}
 use Rattle.ms_complete.proofs.Writing.{nogood_from, writes_from, writes_once}
 use Rattle.ms_complete.proofs.Carried.{filter_none, heads, if_some, match_one, other_head}
@@ -28,19 +28,8 @@ module _ (j released : Join) (a key : ℕ) (things : List Thing) (store after : 
   abbrev own : Nogood
   own = held.lit ∷ []
 
-  -- things and rules are the same
-  there : (t : Thing) → IsThing j.atoms j.rules t → IsThing released.atoms released.rules t
-  there t has = subst (λ (n : ℕ). IsThing n released.rules t) (sym is.atoms) (subst (λ (rs : List GroundRule). IsThing j.atoms rs t) (sym is.rules) has)
-
   back : (t : Thing) → IsThing released.atoms released.rules t → IsThing j.atoms j.rules t
-  back t has = subst (λ (n : ℕ). IsThing n j.rules t) is.atoms (subst (λ (rs : List GroundRule). IsThing released.atoms rs t) is.rules has)
-
-  are : AreThings released things
-  are = record {
-    exactly = λ t. (λ has. there t ((of.are.exactly t).0 has), λ it. (of.are.exactly t).1 (back t it));
-    once = of.are.once;
-    before = of.are.before;
-  }
+  back = there released j (sym is.atoms) (sym is.rules)
 
   -- its outputs are those that there were, and the atom
   atom_is_output : IsOutput released a
@@ -98,17 +87,8 @@ module _ (j released : Join) (a key : ℕ) (things : List Thing) (store after : 
   same_signs : (says : Completion) → signs_of released.rules says ≡ signs_of j.rules says
   same_signs says = ap (λ (rs : List GroundRule). signs_of rs says) is.rules
 
-  of_stays : (says : Completion) → IsOf (IsThing j.atoms j.rules) (IsOutput j) j.rules says → IsOf (IsThing released.atoms released.rules) (IsOutput released) released.rules says
-  of_stays (whole_body b) its = there (body b) its
-  of_stays (part_of_body b part) its = (there (body b) its.0, its.1)
-  of_stays (no_condition t) its = there (tuple t) its
-  of_stays (condition_of_tuple t c) its = (there (tuple t) its.0, its.1)
-  of_stays (unsupported b) its = output_stays b its
-  of_stays (no_head rule h) its = (subst (λ (rs : List GroundRule). Contains rs rule) (sym is.rules) its.0, its.1, its.2)
-  of_stays (broken rule) its = (subst (λ (rs : List GroundRule). Contains rs rule) (sym is.rules) its.0, its.1)
-
   stays : (n : Nogood) → IsCompletionNogood j things n → IsCompletionNogood released things n
-  stays n c = record { says = c.says; of_join = of_stays c.says c.of_join; is = subst (λ (signs : List Signed). IsNogoodOf things signs n) (sym (same_signs c.says)) c.is }
+  stays = completion_stays j released is.atoms is.rules output_stays things
 
   was : (n : Nogood) (says : Completion) → IsOf (IsThing j.atoms j.rules) (IsOutput j) j.rules says → IsNogoodOf things (signs_of released.rules says) n → (n ≡ own) ⊎ IsCompletionNogood j things n
   was n says its nogood = inr (record { says = says; of_join = its; is = subst (λ (signs : List Signed). IsNogoodOf things signs n) (same_signs says) nogood })
@@ -153,4 +133,4 @@ module _ (j released : Join) (a key : ℕ) (things : List Thing) (store after : 
   ]
 
   pub are_of_released : AreOf released things after
-  are_of_released = record { are = are; completion = λ n. (found n, has n) }
+  are_of_released = record { are = same_things j released is.atoms is.rules things of.are; completion = λ n. (found n, has n) }

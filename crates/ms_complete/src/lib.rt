@@ -6,10 +6,10 @@ mod key;
 mod nogoods;
 mod notes;
 mod numbers;
-mod releasing;
+mod steps;
 mod supports;
 mod written;
 
 pub use complete::Complete;
 pub use ms_base::memory::OutOfMemory;
-pub use releasing::release_completes;
+pub use steps::{assign_completes, release_completes, start_completes};

@@ -1,8 +1,9 @@
 -- The modules of the tests name the atoms that they declare.
-use Rattle.std.proofs.Common.{◌≡◌, ◌∙◌, ◌⊎◌, ◌+◌, ◌<◌, ◌≤◌, ℕ, Bool, true, false, List, ◌++◌, Option, Some, None, length, refl, sym, ap, subst, inl, inr, arith, length-append}
+use Rattle.std.proofs.Common.{◌≡◌, ◌∙◌, ◌+◌, ◌-◌, ◌<◌, ◌≤◌, ℕ, Bool, true, false, List, ◌++◌, Option, Some, None, take, drop, length, sym, ap, subst, inl, inr, arith, length-append, length-drop}
 use Rattle.std.specs.Prelude.{slice_get, IfSome, IsSomeAnd}
-use Rattle.std.specs.List.{All, Any, Contains}
+use Rattle.std.specs.List.{All, Contains}
 use Rattle.std.proofs.lemmas.Bool.{false≢true}
+use Rattle.std.proofs.lemmas.List.{length-take}
 use Rattle.std.proofs.lemmas.List.Elements.{All-append, All-contains, Contains-append_cases}
 use Rattle.std.proofs.lemmas.Option.{slice_get-get_or}
 use Rattle.ms_nogood.specs.Store.{Store}
@@ -11,11 +12,8 @@ use Rattle.ms_join.specs.declared.ground_module.GroundModule.{GroundModule}
 use Rattle.ms_join.specs.Things.{Thing}
 use Rattle.ms_join.specs.Things.Thing.{atom, body, tuple, aggregate}
 use Rattle.ms_complete.specs.Completing.{Completes}
-use Rattle.ms_complete.specs.Notes.{AreNamed}
 use Rattle.ms_complete.specs.Numbering.{Numbering, IsOfRule, IsHeadThing, IsFrom}
 use Rattle.ms_complete_tests.specs.Programs.{IsRuleBelow, IsPartAfter, HasNames}
-use Rattle.std.proofs.Common.{◌-◌, take, drop, length-drop}
-use Rattle.std.proofs.lemmas.List.{length-take}
 
 abbrev is_atom : Thing → Bool
 is_atom (atom a) = true

@@ -1,4 +1,4 @@
-use Rattle.std.proofs.Common.{◌≤◌, ◌-◌, ◌<◌, take, drop, length, arith}
+use Rattle.std.proofs.Common.{◌≤◌, ◌-◌, ◌<◌, drop, length, arith}
 use Rattle.std.proofs.lemmas.List.Elements.{All-take, All-drop}
 use Rattle.ms_complete_tests.proofs.Named.{names_between}
 use Rattle.ms_complete_tests.proofs.programs.take_all.Goals as goal
