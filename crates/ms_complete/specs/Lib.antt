@@ -5,3 +5,6 @@ pub mod Sets
 pub mod Next
 pub mod Rules
 pub mod Completing
+pub mod Steps
+pub mod Notes
+pub mod Lines
