@@ -1,6 +1,6 @@
 -- What assigning and releasing an atom by its term say of an open session.
-use Rattle.std.proofs.Common.{◌≡◌, ℕ, get_or, refl, sym, subst, ap, ◌∙◌, Option, Some, None}
-use Rattle.std.specs.List.{Contains, slice_get}
+use Rattle.std.proofs.Common.{◌≡◌, ℕ, refl, sym, subst, ap, ◌∙◌, Option, Some, None}
+use Rattle.std.specs.List.{Contains}
 use Rattle.std.proofs.lemmas.Option.{get_or_from_slice_get, slice_get_within}
 use Rattle.ms_base.specs.declared.truth.Truth.{Truth}
 use Rattle.ms_base.specs.declared.truth.Effect.TheVariants.{Done, NoEffect as nothing}

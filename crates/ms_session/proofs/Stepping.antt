@@ -48,7 +48,7 @@ base_back rules old new base grown after m g is =
     is ∙ ap (take (length base)) g.grown ∙ take-append_seam base m.names
 
 -- nothing changed but the table
-pub same_state : (old new : List Tree) (texts : Texts) (base after : List ℕ) (join next : Join) → Keeps old new → All (λ t. t < length old) base
+same_state : (old new : List Tree) (texts : Texts) (base after : List ℕ) (join next : Join) → Keeps old new → All (λ t. t < length old) base
     → after ≡ base → next ≡ join → state_by new texts after next ≡ state_by old texts base join
 same_state old new texts base after join next k named same_base same_join =
     ap (λ b. state_by new texts b next) same_base
@@ -76,7 +76,7 @@ refused_as texts calls old new base grown after join next m Later named g why sa
 refused_as texts calls old new base grown after join next m TooLarge named g why same = elim why [ ]
 refused_as texts calls old new base grown after join next m Small named g why same = elim why [ ]
 
-pub module_steps : (texts : Texts) (calls : List Call) (old new : List Tree) (base grown after : List ℕ) (join next : Join) (m : GroundModule) (mark : ℕ) (reply : Reply)
+module_steps : (texts : Texts) (calls : List Call) (old new : List Tree) (base grown after : List ℕ) (join next : Join) (m : GroundModule) (mark : ℕ) (reply : Reply)
     → IsSound old base join → mark ≡ length base → IsGround (core_of_calls texts calls) old new base grown m
     → JoinsAs new mark m grown join after next reply
     → Answers (state_by old texts base join) (Ground calls) (said_by new reply) (state_by new texts after next)
@@ -102,7 +102,7 @@ module_steps texts calls old new base grown after join next m mark Released s at
 module_steps texts calls old new base grown after join next m mark NoEffect s at g h = elim h [ ]
 module_steps texts calls old new base grown after join next m mark (Solved ending count limit shown) s at g h = elim h [ ]
 
-pub module_sound : (rules : List CoreRule) (old new : List Tree) (base grown after : List ℕ) (join next : Join) (m : GroundModule) (mark : ℕ) (reply : Reply)
+module_sound : (rules : List CoreRule) (old new : List Tree) (base grown after : List ℕ) (join next : Join) (m : GroundModule) (mark : ℕ) (reply : Reply)
     → IsSound old base join → mark ≡ length base → IsGround rules old new base grown m
     → JoinsAs new mark m grown join after next reply
     → IsSound new after next
@@ -129,7 +129,7 @@ module_sound rules old new base grown after join next m mark NoEffect s at g h =
 module_sound rules old new base grown after join next m mark (Solved ending count limit shown) s at g h = elim h [ ]
 
 -- an aggregate is where not all rules are plain
-pub not_plain : (rules : List CoreRule) → HasAggregates rules → ¬ ArePlain rules
+not_plain : (rules : List CoreRule) → HasAggregates rules → ¬ ArePlain rules
 not_plain rules h plain = h.4 (subst (λ (rule : CoreRule). rule.aggs ≡ []) h.3 (plain h.0 h.1 h.2))
 
 -- the base that grounding left is that of the join and the module's atoms
@@ -146,12 +146,12 @@ grown_base rules old new base grown join m mark s at g =
       counted = omega arith;
     }
 
-pub later_step : (texts : Texts) (calls : List Call) (old new : List Tree) (base after : List ℕ) (join : Join) → All (λ t. t < length old) base
+later_step : (texts : Texts) (calls : List Call) (old new : List Tree) (base after : List ℕ) (join : Join) → All (λ t. t < length old) base
     → IsLater (core_of_calls texts calls) old new base after → Answers (state_by old texts base join) (Ground calls) (refused Later) (state_by new texts after join)
 later_step texts calls old new base after join named l =
     (not_plain (core_of_calls texts calls) l.aggregates, same_state old new texts base after join join l.keeps named l.same refl)
 
-pub large_step : (texts : Texts) (calls : List Call) (old new : List Tree) (base after : List ℕ) (join : Join) → All (λ t. t < length old) base
+large_step : (texts : Texts) (calls : List Call) (old new : List Tree) (base after : List ℕ) (join : Join) → All (λ t. t < length old) base
     → TooLargeFor (core_of_calls texts calls) old new base after → Answers (state_by old texts base join) (Ground calls) (refused TooLarge) (state_by new texts after join)
 large_step texts calls old new base after join named r =
     (r.plain, r.large, same_state old new texts base after join join r.keeps named r.same refl)
@@ -168,7 +168,7 @@ module_stays rules old new base grown after join next m mark Released at g h = e
 module_stays rules old new base grown after join next m mark NoEffect at g h = elim h [ ]
 module_stays rules old new base grown after join next m mark (Solved ending count limit shown) at g h = elim h [ ]
 
--- the step that joined the module or refused it
+-- the reply to a grounding has no names
 module_named : (size : ℕ) (table : List Tree) (mark : ℕ) (m : GroundModule) (grown after : List ℕ) (join next : Join) (reply : Reply) → JoinsAs table mark m grown join after next reply → IsNamed size reply
 module_named size table mark m grown after join next (Grounded atoms rules) h = tt
 module_named size table mark m grown after join next (Refused refusal) h = tt
@@ -179,6 +179,7 @@ module_named size table mark m grown after join next NoEffect h = elim h [ ]
 module_named size table mark m grown after join next (Solved ending count limit shown) h = elim h [ ]
 
 module _ (calls : List Call) (old : Open) (whole : IsWhole old) where
+  -- joining the module or refusing it is a step of the open session
   pub joining_step : (terms : List Tree) (grown after : List ℕ) (next : Join) (m : GroundModule) (mark : ℕ) (reply : Reply) → mark ≡ length old.base
       → IsGround (core_of_calls old.parts calls) old.terms terms old.base grown m → JoinsAs terms mark m grown old.join after next reply
       → IsStep old (Ground calls) (record old { terms = terms; base = after; join = next }) reply
@@ -193,6 +194,7 @@ module _ (calls : List Call) (old : Open) (whole : IsWhole old) where
   kept_whole : (terms : List Tree) (after : List ℕ) → Keeps old.terms terms → after ≡ old.base → IsSound terms after old.join
   kept_whole terms after k same = subst (λ (b : List ℕ). IsSound terms b old.join) (sym same) (sound_kept old.terms terms old.base old.join k whole)
 
+  -- so is that there is none
   pub later : (terms : List Tree) (after : List ℕ) → IsLater (core_of_calls old.parts calls) old.terms terms old.base after
       → IsStep old (Ground calls) (record old { terms = terms; base = after }) (Refused Later)
   later terms after l = record {

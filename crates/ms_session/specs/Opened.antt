@@ -1,5 +1,5 @@
 -- What the calls of an open session do.
-use Rattle.std.specs.Prelude.{◌≡◌, List, length, map}
+use Rattle.std.specs.Prelude.{List, length, map}
 use Rattle.ms_tree.specs.Tree.{Tree}
 use Rattle.ms_term.specs.Terms.{term_at}
 use Rattle.ms_value.specs.Naming.{Keeps}

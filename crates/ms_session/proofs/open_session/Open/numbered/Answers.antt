@@ -1,5 +1,4 @@
 use Rattle.std.proofs.Common.{◌≡◌, ◌∙◌, ℕ, ◌+◌, List, take, Option, Some, None, Contains, sym, subst, ap}
-use Rattle.std.specs.Prelude.{MatchOption}
 use Rattle.std.proofs.lemmas.List.{take_all}
 use Rattle.ms_tree.specs.Tree.{Tree}
 use Rattle.ms_call.specs.declared.command.Assumption.{Assumption}
