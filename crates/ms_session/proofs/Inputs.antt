@@ -1,6 +1,6 @@
--- What assigning and releasing an atom by its term say of a session.
-use Rattle.std.proofs.Common.{◌≡◌, ℕ, List, [], false, get_or, refl, sym, subst, Option, Some, None}
-use Rattle.std.specs.List.{Contains, slice_get}
+-- What assigning and releasing an atom by its term say of an open session.
+use Rattle.std.proofs.Common.{◌≡◌, ℕ, refl, sym, subst, ap, ◌∙◌, Option, Some, None}
+use Rattle.std.specs.List.{Contains}
 use Rattle.std.proofs.lemmas.Option.{get_or_from_slice_get, slice_get_within}
 use Rattle.ms_base.specs.declared.truth.Truth.{Truth}
 use Rattle.ms_base.specs.declared.truth.Effect.TheVariants.{Done, NoEffect as nothing}
@@ -8,72 +8,74 @@ use Rattle.ms_tree.specs.Tree.{Tree}
 use Rattle.ms_grammar.specs.declared.value.Value.{Value}
 use Rattle.ms_call.specs.declared.command.Command.{Command}
 use Rattle.ms_call.specs.declared.command.Command.TheVariants.{Assign, Release}
-use Rattle.ms_join.specs.Modules.{IsInput}
+use Rattle.ms_join.specs.Modules.{Join, IsInput, value_of}
+use Rattle.ms_module.specs.Inputs.{Assigns, Releases}
+use Rattle.ms_value.specs.Naming.{Keeps}
 use Rattle.ms_value.proofs.Tables.{keeps_same}
 use Rattle.ms_solving.specs.Listing.{tree_of_value}
 use Rattle.ms_machine.specs.Machine.{Answers, IsInputNamed}
-use Rattle.ms_machine.specs.Replies.{no_effect}
+use Rattle.ms_machine.specs.Replies.{assigned, no_effect, released}
 use Rattle.ms_machine.specs.declared.reply.Reply.TheVariants.{Assigned, NoEffect, Released}
-use Rattle.ms_session.specs.Kept.{Kept, Assigns, IsAtomOf, IsDone, IsFound, IsNumberOf, Releases, state_of}
+use Rattle.ms_session.specs.declared.open_session.Open.{Open}
+use Rattle.ms_session.specs.Kept.{IsAtomOf, IsNumberOf}
+use Rattle.ms_session.specs.Opened.{IsStep, IsWhole, names_of, state_in}
 
 -- nothing happened
-unchanged : (old new : Kept) (command : Command) → old.sealed ≡ false → new ≡ old → old.notes ≡ [] → Answers (state_of old) command no_effect (state_of old) → IsDone old command new NoEffect
-unchanged old new command was same silent answers =
-    subst (λ (k : Kept). IsDone old command k NoEffect) (sym same)
-    (record { was_open = was; is_open = was; step = record { answers = answers; logs = record { lines = silent; things = refl; kept = refl } }; named = tt; keeps = keeps_same old.table })
+unchanged : (o : Open) (command : Command) → IsWhole o → Answers (state_in o) command no_effect (state_in o) → IsStep o command o NoEffect
+unchanged o command whole answers = record { answers = answers; whole = whole; named = tt; keeps = keeps_same o.terms }
 
 -- no atom has the term
-none_named : (old : Kept) (t : Tree) (number : Option ℕ) → number ≡ None → IsNumberOf (state_of old).names t number → (a : ℕ) → ¬ IsInputNamed (state_of old) t a
-none_named old t number is found a input =
-    let missing : ¬ Contains (state_of old).names t = subst (λ (n : Option ℕ). IsNumberOf (state_of old).names t n) is found in
-    missing (a, slice_get_within (state_of old).names a t input.named, get_or_from_slice_get (state_of old).names a t t input.named)
+none_named : (o : Open) (t : Tree) (number : Option ℕ) → number ≡ None → IsNumberOf (names_of o) t number → (a : ℕ) → ¬ IsInputNamed (state_in o) t a
+none_named o t number is found a input =
+    let missing : ¬ Contains (names_of o) t = subst (λ (n : Option ℕ). IsNumberOf (names_of o) t n) is found in
+    missing (a, slice_get_within (names_of o) a t input.named, get_or_from_slice_get (names_of o) a t t input.named)
 
 -- the atom that has the term is no input
-no_input_named : (old : Kept) (t : Tree) (a : ℕ) → IsAtomOf (state_of old).names t a → ¬ IsInput old.join a → (b : ℕ) → ¬ IsInputNamed (state_of old) t b
-no_input_named old t a atom none b input = none (subst (IsInput old.join) (atom.only b input.named) input.input)
+no_input_named : (o : Open) (t : Tree) (a : ℕ) → IsAtomOf (names_of o) t a → ¬ IsInput o.join a → (b : ℕ) → ¬ IsInputNamed (state_in o) t b
+no_input_named o t a atom none b input = none (subst (IsInput o.join) (atom.only b input.named) input.input)
 
-some_number : (old : Kept) (t : Tree) (number : Option ℕ) (a : ℕ) → number ≡ Some a → IsNumberOf (state_of old).names t number → IsAtomOf (state_of old).names t a
-some_number old t number a is found = subst (λ (n : Option ℕ). IsNumberOf (state_of old).names t n) is found
+some_number : (o : Open) (t : Tree) (number : Option ℕ) (a : ℕ) → number ≡ Some a → IsNumberOf (names_of o) t number → IsAtomOf (names_of o) t a
+some_number o t number a is found = subst (λ (n : Option ℕ). IsNumberOf (names_of o) t n) is found
 
-module _ (old mid : Kept) (atom : Value) (number : Option ℕ) (found : IsFound old (tree_of_value atom) mid number) where
-  pub unknown_assigned : (truth : Truth) → number ≡ None → IsDone old (Assign atom truth) mid NoEffect
-  unknown_assigned truth is = unchanged old mid (Assign atom truth) found.was_open found.same found.silent (none_named old (tree_of_value atom) number is found.found, refl)
+-- a join that stays is none that changed
+same_open : (old new : Open) → new ≡ record old { join = new.join } → new.join ≡ old.join → new ≡ old
+same_open old new rest same = rest ∙ ap (λ (j : Join). record old { join = j }) same
 
-  pub unknown_released : number ≡ None → IsDone old (Release atom) mid NoEffect
-  unknown_released is = unchanged old mid (Release atom) found.was_open found.same found.silent (none_named old (tree_of_value atom) number is found.found, refl)
+module _ (old : Open) (atom : Value) (number : Option ℕ) (whole : IsWhole old) (found : IsNumberOf (names_of old) (tree_of_value atom) number) where
+  pub unknown_assigned : (truth : Truth) → number ≡ None → IsStep old (Assign atom truth) old NoEffect
+  unknown_assigned truth is = unchanged old (Assign atom truth) whole (none_named old (tree_of_value atom) number is found, refl)
 
-  module _ (new : Kept) (a : ℕ) (is : number ≡ Some a) where
-    here : IsAtomOf (state_of old).names (tree_of_value atom) a
-    here = some_number old (tree_of_value atom) number a is found.found
+  pub unknown_released : number ≡ None → IsStep old (Release atom) old NoEffect
+  unknown_released is = unchanged old (Release atom) whole (none_named old (tree_of_value atom) number is found, refl)
 
-    pub is_assigned : (truth : Truth) → Assigns mid a truth new Done → IsDone old (Assign atom truth) new Assigned
-    is_assigned truth h =
-        let did = subst (λ (k : Kept). Assigns k a truth new Done) found.same h in
-        subst (λ (k : Kept). IsDone old (Assign atom truth) k Assigned) (sym did.2) (record {
-          was_open = found.was_open;
-          is_open = found.was_open;
-          step = record { answers = ((a, record { named = here.there; input = did.0 }, did.1), refl, refl); logs = record { lines = found.silent; things = refl; kept = refl } };
-          named = tt;
-          keeps = keeps_same old.table;
-        })
+  module _ (new : Open) (a : ℕ) (is : number ≡ Some a) (still : IsWhole new) (rest : new ≡ record old { join = new.join }) where
+    here : IsAtomOf (names_of old) (tree_of_value atom) a
+    here = some_number old (tree_of_value atom) number a is found
 
-    pub not_assigned : (truth : Truth) → Assigns mid a truth new nothing → IsDone old (Assign atom truth) new NoEffect
+    pub is_assigned : (truth : Truth) → Assigns old.join a (value_of truth) new.join Done → IsStep old (Assign atom truth) new Assigned
+    is_assigned truth h = record {
+      answers = subst (λ (o : Open). Answers (state_in old) (Assign atom truth) assigned (state_in o)) (sym rest)
+          ((a, record { named = here.there; input = h.0 }, h.1), refl, refl);
+      whole = still;
+      named = tt;
+      keeps = subst (λ (o : Open). Keeps old.terms o.terms) (sym rest) (keeps_same old.terms);
+    }
+
+    pub not_assigned : (truth : Truth) → Assigns old.join a (value_of truth) new.join nothing → IsStep old (Assign atom truth) new NoEffect
     not_assigned truth h =
-        let did = subst (λ (k : Kept). Assigns k a truth new nothing) found.same h in
-        unchanged old new (Assign atom truth) found.was_open did.1 found.silent (no_input_named old (tree_of_value atom) a here did.0, refl)
+        subst (λ (o : Open). IsStep old (Assign atom truth) o NoEffect) (sym (same_open old new rest h.1))
+        (unchanged old (Assign atom truth) whole (no_input_named old (tree_of_value atom) a here h.0, refl))
 
-    pub is_released : Releases mid a new Done → IsDone old (Release atom) new Released
-    is_released h =
-        let did = subst (λ (k : Kept). Releases k a new Done) found.same h in
-        subst (λ (k : Kept). IsDone old (Release atom) k Released) (sym did.2) (record {
-          was_open = found.was_open;
-          is_open = found.was_open;
-          step = record { answers = ((a, record { named = here.there; input = did.0 }, did.1), refl, refl); logs = record { lines = found.silent; things = refl; kept = refl } };
-          named = tt;
-          keeps = keeps_same old.table;
-        })
+    pub is_released : Releases old.join a new.join Done → IsStep old (Release atom) new Released
+    is_released h = record {
+      answers = subst (λ (o : Open). Answers (state_in old) (Release atom) released (state_in o)) (sym rest)
+          ((a, record { named = here.there; input = h.0 }, h.1), refl, refl);
+      whole = still;
+      named = tt;
+      keeps = subst (λ (o : Open). Keeps old.terms o.terms) (sym rest) (keeps_same old.terms);
+    }
 
-    pub not_released : Releases mid a new nothing → IsDone old (Release atom) new NoEffect
+    pub not_released : Releases old.join a new.join nothing → IsStep old (Release atom) new NoEffect
     not_released h =
-        let did = subst (λ (k : Kept). Releases k a new nothing) found.same h in
-        unchanged old new (Release atom) found.was_open did.1 found.silent (no_input_named old (tree_of_value atom) a here did.0, refl)
+        subst (λ (o : Open). IsStep old (Release atom) o NoEffect) (sym (same_open old new rest h.1))
+        (unchanged old (Release atom) whole (no_input_named old (tree_of_value atom) a here h.0, refl))

@@ -6,3 +6,4 @@ mod Refusing
 mod Stepping
 mod Sealing
 mod Inputs
+mod Opening

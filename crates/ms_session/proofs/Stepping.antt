@@ -22,7 +22,9 @@ use Rattle.ms_solving.specs.Grounding.{core_of_calls, Grounds}
 use Rattle.ms_machine.specs.Machine.{Answers, State}
 use Rattle.ms_value.proofs.Tables.{keeps_same}
 use Rattle.ms_machine.specs.Replies.{refused, said_by}
-use Rattle.ms_session.specs.Kept.{IsSound, state_by}
+use Rattle.ms_session.specs.declared.open_session.Open.{Open}
+use Rattle.ms_session.specs.Kept.{IsNamed, IsSound, state_by}
+use Rattle.ms_session.specs.Opened.{IsStep, IsWhole, state_in}
 use Rattle.ms_session.specs.Joining.{IsGrownBase, JoinsAs, RefusesAs, StaysWhereRefused}
 use Rattle.ms_session.proofs.Keeping.{names_kept, state_kept, sound_kept, table_back}
 use Rattle.ms_session.proofs.Refusing.{few_atoms}
@@ -46,7 +48,7 @@ base_back rules old new base grown after m g is =
     is ∙ ap (take (length base)) g.grown ∙ take-append_seam base m.names
 
 -- nothing changed but the table
-pub same_state : (old new : List Tree) (texts : Texts) (base after : List ℕ) (join next : Join) → Keeps old new → All (λ t. t < length old) base
+same_state : (old new : List Tree) (texts : Texts) (base after : List ℕ) (join next : Join) → Keeps old new → All (λ t. t < length old) base
     → after ≡ base → next ≡ join → state_by new texts after next ≡ state_by old texts base join
 same_state old new texts base after join next k named same_base same_join =
     ap (λ b. state_by new texts b next) same_base
@@ -74,7 +76,7 @@ refused_as texts calls old new base grown after join next m Later named g why sa
 refused_as texts calls old new base grown after join next m TooLarge named g why same = elim why [ ]
 refused_as texts calls old new base grown after join next m Small named g why same = elim why [ ]
 
-pub module_steps : (texts : Texts) (calls : List Call) (old new : List Tree) (base grown after : List ℕ) (join next : Join) (m : GroundModule) (mark : ℕ) (reply : Reply)
+module_steps : (texts : Texts) (calls : List Call) (old new : List Tree) (base grown after : List ℕ) (join next : Join) (m : GroundModule) (mark : ℕ) (reply : Reply)
     → IsSound old base join → mark ≡ length base → IsGround (core_of_calls texts calls) old new base grown m
     → JoinsAs new mark m grown join after next reply
     → Answers (state_by old texts base join) (Ground calls) (said_by new reply) (state_by new texts after next)
@@ -100,7 +102,7 @@ module_steps texts calls old new base grown after join next m mark Released s at
 module_steps texts calls old new base grown after join next m mark NoEffect s at g h = elim h [ ]
 module_steps texts calls old new base grown after join next m mark (Solved ending count limit shown) s at g h = elim h [ ]
 
-pub module_sound : (rules : List CoreRule) (old new : List Tree) (base grown after : List ℕ) (join next : Join) (m : GroundModule) (mark : ℕ) (reply : Reply)
+module_sound : (rules : List CoreRule) (old new : List Tree) (base grown after : List ℕ) (join next : Join) (m : GroundModule) (mark : ℕ) (reply : Reply)
     → IsSound old base join → mark ≡ length base → IsGround rules old new base grown m
     → JoinsAs new mark m grown join after next reply
     → IsSound new after next
@@ -127,7 +129,7 @@ module_sound rules old new base grown after join next m mark NoEffect s at g h =
 module_sound rules old new base grown after join next m mark (Solved ending count limit shown) s at g h = elim h [ ]
 
 -- an aggregate is where not all rules are plain
-pub not_plain : (rules : List CoreRule) → HasAggregates rules → ¬ ArePlain rules
+not_plain : (rules : List CoreRule) → HasAggregates rules → ¬ ArePlain rules
 not_plain rules h plain = h.4 (subst (λ (rule : CoreRule). rule.aggs ≡ []) h.3 (plain h.0 h.1 h.2))
 
 -- the base that grounding left is that of the join and the module's atoms
@@ -144,12 +146,12 @@ grown_base rules old new base grown join m mark s at g =
       counted = omega arith;
     }
 
-pub later_step : (texts : Texts) (calls : List Call) (old new : List Tree) (base after : List ℕ) (join : Join) → All (λ t. t < length old) base
+later_step : (texts : Texts) (calls : List Call) (old new : List Tree) (base after : List ℕ) (join : Join) → All (λ t. t < length old) base
     → IsLater (core_of_calls texts calls) old new base after → Answers (state_by old texts base join) (Ground calls) (refused Later) (state_by new texts after join)
 later_step texts calls old new base after join named l =
     (not_plain (core_of_calls texts calls) l.aggregates, same_state old new texts base after join join l.keeps named l.same refl)
 
-pub large_step : (texts : Texts) (calls : List Call) (old new : List Tree) (base after : List ℕ) (join : Join) → All (λ t. t < length old) base
+large_step : (texts : Texts) (calls : List Call) (old new : List Tree) (base after : List ℕ) (join : Join) → All (λ t. t < length old) base
     → TooLargeFor (core_of_calls texts calls) old new base after → Answers (state_by old texts base join) (Ground calls) (refused TooLarge) (state_by new texts after join)
 large_step texts calls old new base after join named r =
     (r.plain, r.large, same_state old new texts base after join join r.keeps named r.same refl)
@@ -166,25 +168,63 @@ module_stays rules old new base grown after join next m mark Released at g h = e
 module_stays rules old new base grown after join next m mark NoEffect at g h = elim h [ ]
 module_stays rules old new base grown after join next m mark (Solved ending count limit shown) at g h = elim h [ ]
 
-pub keeps_table : (old cut : List Tree) → cut ≡ old → Keeps old cut
-keeps_table old cut is = subst (λ (ts : List Tree). Keeps old ts) (sym is) (keeps_same old)
+-- the reply to a grounding has no names
+module_named : (size : ℕ) (table : List Tree) (mark : ℕ) (m : GroundModule) (grown after : List ℕ) (join next : Join) (reply : Reply) → JoinsAs table mark m grown join after next reply → IsNamed size reply
+module_named size table mark m grown after join next (Grounded atoms rules) h = tt
+module_named size table mark m grown after join next (Refused refusal) h = tt
+module_named size table mark m grown after join next (Added count) h = elim h [ ]
+module_named size table mark m grown after join next Assigned h = elim h [ ]
+module_named size table mark m grown after join next Released h = elim h [ ]
+module_named size table mark m grown after join next NoEffect h = elim h [ ]
+module_named size table mark m grown after join next (Solved ending count limit shown) h = elim h [ ]
 
--- where nothing but the table changed, and the table goes back, nothing changed
-pub refusal_steps : (texts : Texts) (calls : List Call) (old new cut : List Tree) (base after : List ℕ) (join next : Join) (refusal : Refusal) → All (λ t. t < length old) base
-    → Keeps old new → cut ≡ take (length old) new → (after ≡ base) × (next ≡ join)
-    → Answers (state_by old texts base join) (Ground calls) (said_by new (Refused refusal)) (state_by new texts after next)
-    → Answers (state_by old texts base join) (Ground calls) (said_by cut (Refused refusal)) (state_by cut texts after next)
-refusal_steps texts calls old new cut base after join next refusal named k is stays h =
-    let back : cut ≡ old = is ∙ table_back old new k in
-    let state : state_by cut texts after next ≡ state_by new texts after next =
-    same_state old cut texts base after join next (keeps_table old cut back) named stays.0 stays.1
-    ∙ sym (same_state old new texts base after join next k named stays.0 stays.1) in
-    subst (λ (s : State). Answers (state_by old texts base join) (Ground calls) (refused refusal) s) (sym state) h
+module _ (calls : List Call) (old : Open) (whole : IsWhole old) where
+  -- joining the module or refusing it is a step of the open session
+  pub joining_step : (terms : List Tree) (grown after : List ℕ) (next : Join) (m : GroundModule) (mark : ℕ) (reply : Reply) → mark ≡ length old.base
+      → IsGround (core_of_calls old.parts calls) old.terms terms old.base grown m → JoinsAs terms mark m grown old.join after next reply
+      → IsStep old (Ground calls) (record old { terms = terms; base = after; join = next }) reply
+  joining_step terms grown after next m mark reply at g h = record {
+    answers = module_steps old.parts calls old.terms terms old.base grown after old.join next m mark reply whole at g h;
+    whole = module_sound (core_of_calls old.parts calls) old.terms terms old.base grown after old.join next m mark reply whole at g h;
+    named = module_named (length terms) terms mark m grown after old.join next reply h;
+    keeps = g.keeps;
+  }
 
-pub refusal_sound : (old new cut : List Tree) (base after : List ℕ) (join next : Join) → IsSound old base join → Keeps old new → cut ≡ take (length old) new
-    → (after ≡ base) × (next ≡ join) → IsSound cut after next
-refusal_sound old new cut base after join next s k is stays =
-    let back : cut ≡ old = is ∙ table_back old new k in
-    subst (λ (b : List ℕ). IsSound cut b next) (sym stays.0)
-    (subst (λ (j : Join). IsSound cut base j) (sym stays.1)
-    (subst (λ (ts : List Tree). IsSound ts base join) (sym back) s))
+  -- where the base stays and the table keeps its names, what was whole is
+  kept_whole : (terms : List Tree) (after : List ℕ) → Keeps old.terms terms → after ≡ old.base → IsSound terms after old.join
+  kept_whole terms after k same = subst (λ (b : List ℕ). IsSound terms b old.join) (sym same) (sound_kept old.terms terms old.base old.join k whole)
+
+  -- so is that there is none
+  pub later : (terms : List Tree) (after : List ℕ) → IsLater (core_of_calls old.parts calls) old.terms terms old.base after
+      → IsStep old (Ground calls) (record old { terms = terms; base = after }) (Refused Later)
+  later terms after l = record {
+    answers = later_step old.parts calls old.terms terms old.base after old.join whole.named l;
+    whole = kept_whole terms after l.keeps l.same;
+    named = tt;
+    keeps = l.keeps;
+  }
+
+  pub large : (terms : List Tree) (after : List ℕ) → TooLargeFor (core_of_calls old.parts calls) old.terms terms old.base after
+      → IsStep old (Ground calls) (record old { terms = terms; base = after }) (Refused TooLarge)
+  large terms after r = record {
+    answers = large_step old.parts calls old.terms terms old.base after old.join whole.named r;
+    whole = kept_whole terms after r.keeps r.same;
+    named = tt;
+    keeps = r.keeps;
+  }
+
+  -- where nothing but the table changed, and the table goes back, nothing changed
+  pub going_back : (mid : Open) (cut : List Tree) (refusal : Refusal) → mid.parts ≡ old.parts → (mid.base ≡ old.base) × (mid.join ≡ old.join) → cut ≡ take (length old.terms) mid.terms
+      → IsStep old (Ground calls) mid (Refused refusal) → IsStep old (Ground calls) (record mid { terms = cut }) (Refused refusal)
+  going_back mid cut refusal texts stays is h =
+      let back : cut ≡ old.terms = is ∙ table_back old.terms mid.terms h.keeps in
+      let same : record mid { terms = cut } ≡ old = λ i. record { parts = texts i; terms = back i; base = stays.0 i; join = stays.1 i } in
+      let state : state_in mid ≡ state_in old =
+      ap (λ (ts : Texts). state_by mid.terms ts mid.base mid.join) texts
+      ∙ same_state old.terms mid.terms old.parts old.base mid.base old.join mid.join h.keeps whole.named stays.0 stays.1 in
+      subst (λ (o : Open). IsStep old (Ground calls) o (Refused refusal)) (sym same) (record {
+        answers = subst (λ (s : State). Answers (state_in old) (Ground calls) (refused refusal) s) state h.answers;
+        whole = whole;
+        named = tt;
+        keeps = keeps_same old.terms;
+      })

@@ -4,3 +4,4 @@ pub mod Naming
 pub mod Steps
 pub mod Joining
 pub mod Assuming
+pub mod Opened

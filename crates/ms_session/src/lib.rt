@@ -4,6 +4,7 @@
 mod adding;
 mod atoms;
 mod grounding;
+mod open_session;
 mod reply_text;
 mod session;
 mod solving;

@@ -1,20 +1,15 @@
 // Sessions: one step of the machine for each command, until there is no memory.
-ghost use Rattle.std.specs.Prelude.{◌≡◌, ◌≤◌, ℕ, [], false, true, ◌++◌, IfOk, OnOk, OnErr, length, take};
+ghost use Rattle.std.specs.Prelude.{◌≡◌, ◌≤◌, ℕ, [], false, true, ◌++◌, IfOk, OnOk, OnErr, is_err, length, take};
 ghost use Rattle.std.specs.Option.{option_copied};
 ghost use Rattle.ms_core.specs.Texts.{constant};
-ghost use Rattle.ms_call.specs.declared.command.Command.TheVariants.{Add, Assign, Ground, Release, Solve};
+ghost use Rattle.ms_call.specs.declared.command.Command.TheVariants.{Add, Ground, Solve};
 ghost use Rattle.ms_solving.specs.Listing.{tree_of_value};
 ghost use Rattle.ms_machine.specs.Machine.{start};
 ghost use Rattle.ms_machine.specs.Replies.{reply_text, said_by};
 ghost use Rattle.ms_session.specs.Kept.{Assigns, IsDone, IsFound, IsGiven, IsNamed, IsSealed, Releases, state_of};
 ghost use Rattle.ms_call.specs.Commands.{AsksForSome};
 
-use crate::adding::add_text;
-use crate::atoms::find_atom;
-use crate::grounding::ground_calls;
-use crate::reply_text::print;
-use crate::solving::solve_join;
-use ms_atombase::AtomBase;
+use crate::open_session::Open;
 use ms_base::atom_id::AtomId;
 use ms_base::memory::OutOfMemory;
 use ms_base::seq::Seq;
@@ -23,9 +18,6 @@ use ms_call::command::{Assumptions, Calls, Command};
 use ms_grammar::value::Value;
 use ms_lits::Notes;
 use ms_machine::reply::Reply;
-use ms_module::Join;
-use ms_parts::Parts;
-use ms_term::Terms;
 use std::alloc::Global;
 use std::marker::Model;
 
@@ -35,10 +27,7 @@ use std::marker::Model;
 /// Contracts see what it keeps as a record, and the state of the machine as `state_of`.
 #[derive(Drop)]
 pub struct Session {
-    parts: Parts,
-    terms: Terms,
-    base: AtomBase,
-    join: Join,
+    open: Open,
     sealed: bool,
     notes: Notes,
 }
@@ -49,15 +38,16 @@ impl Model for Session {
     ghost use Rattle.ms_term.specs.TreeCode.{tree_code};
     ghost use Rattle.ms_grammar.specs.contracts.term.TextTerm as term;
     ghost use Rattle.ms_grammar.specs.contracts.value.Value as value;
-    ghost use Rattle.ms_session.specs.Kept.{Kept, IsSound};
+    ghost use Rattle.ms_session.specs.Kept.{Kept};
+    ghost use Rattle.ms_session.specs.Opened.{IsWhole};
 
     ghost Value = { Kept };
 
     ghost coded = { Prim.hlevel (codes, tree_code, term.the_row.coded, value.the_row.coded) };
 
-    ghost view = { λ s. record { sealed = s.sealed; table = s.terms; texts = s.parts; base = s.base; join = s.join; notes = s.notes } };
+    ghost view = { λ s. record { sealed = s.sealed; table = s.open.terms; texts = s.open.parts; base = s.open.base; join = s.open.join; notes = s.notes } };
 
-    ghost invariant = { λ s. (s.notes ≡ []) × (s.sealed ≡ false → IsSound s.terms s.base s.join) };
+    ghost invariant = { λ s. (s.notes ≡ []) × (s.sealed ≡ false → IsWhole s.open) };
 }
 
 impl Session {
@@ -67,10 +57,7 @@ impl Session {
         ensures start { state_of result ≡ start }
     {
         Session {
-            parts: Parts::new(alloc),
-            terms: Terms::new(alloc),
-            base: AtomBase::new(alloc),
-            join: Join::new(alloc),
+            open: Open::new(alloc),
             sealed: false,
             notes: Seq::new(alloc),
         }
@@ -94,7 +81,7 @@ impl Session {
     pub fn constant(&self, name: &[u8]) -> Option<&Value>
         ensures { option_copied result ≡ constant self.now.texts name.now }
     {
-        self.parts.constant(name)
+        self.open.parts.constant(name)
     }
 
     /// Gives a value to a constant, which wins over what texts define.
@@ -105,9 +92,8 @@ impl Session {
         if self.sealed {
             return Err(OutOfMemory);
         }
-        let given = self.parts.set_const(name, value);
-        self.sealed = given.is_err();
-        given
+        let given = self.open.parts.set_const(name, value);
+        seal_on_failure(&mut self.sealed, given)
     }
 
     /// The number of an atom, or none exactly where the base has no such atom. Nothing else is kept of the look-up.
@@ -118,9 +104,8 @@ impl Session {
         if self.sealed {
             return Err(OutOfMemory);
         }
-        let found = find_atom(alloc, &self.terms, &self.base, atom);
-        self.sealed = found.is_err();
-        found
+        let found = self.open.find(alloc, atom);
+        seal_on_failure(&mut self.sealed, found)
     }
 
     /// Gives a truth to an input, which has no effect exactly where the atom is no input. It takes no memory, and
@@ -134,7 +119,7 @@ impl Session {
         if self.sealed {
             return Err(OutOfMemory);
         }
-        Ok(self.join.assign(a, truth))
+        Ok(self.open.assign(a, truth))
     }
 
     /// Makes an input false for good, which has no effect exactly where the atom is no input. It takes no memory, and
@@ -148,7 +133,7 @@ impl Session {
         if self.sealed {
             return Err(OutOfMemory);
         }
-        Ok(self.join.release(a))
+        Ok(self.open.release(a))
     }
 
     /// Adds a text, or refuses it as the machine does.
@@ -159,9 +144,8 @@ impl Session {
         if self.sealed {
             return Err(OutOfMemory);
         }
-        let reply = add_text(alloc, &mut self.parts, text);
-        self.sealed = reply.is_err();
-        reply
+        let reply = self.open.add(alloc, text);
+        seal_on_failure(&mut self.sealed, reply)
     }
 
     /// Grounds calls of parts and joins their module, or refuses it as the machine does.
@@ -172,16 +156,8 @@ impl Session {
         if self.sealed {
             return Err(OutOfMemory);
         }
-        let reply = ground_calls(
-            alloc,
-            &self.parts,
-            &mut self.terms,
-            &mut self.base,
-            &mut self.join,
-            calls,
-        );
-        self.sealed = reply.is_err();
-        reply
+        let reply = self.open.ground(alloc, calls);
+        seal_on_failure(&mut self.sealed, reply)
     }
 
     /// Lists as many answer sets as are asked for, at least one, or all that there are. A base of more than 20
@@ -200,18 +176,8 @@ impl Session {
         if self.sealed {
             return Err(OutOfMemory);
         }
-        let reply = solve_join(
-            alloc,
-            &self.parts,
-            &self.terms,
-            &self.base,
-            &self.join,
-            count,
-            limit,
-            assume,
-        );
-        self.sealed = reply.is_err();
-        reply
+        let reply = self.open.solve(alloc, count, limit, assume);
+        seal_on_failure(&mut self.sealed, reply)
     }
 
     /// One step of the machine. A solve asks for at least one answer set. The reply is never `Refused(Command)` or
@@ -221,50 +187,11 @@ impl Session {
         ensures ok { IfOk result (IsDone self.old command self.new) }
         ensures err { OnErr result (IsSealed self.old self.new) }
     {
-        match command {
-            Command::Add { text } => self.add(alloc, text.as_slice()),
-            Command::Ground { calls } => self.ground(alloc, &calls),
-            Command::Assign { atom, truth } => self.step_assign(alloc, &atom, truth),
-            Command::Release { atom } => self.step_release(alloc, &atom),
-            Command::Solve {
-                count,
-                limit,
-                assume,
-            } => self.solve(alloc, count, limit, &assume),
+        if self.sealed {
+            return Err(OutOfMemory);
         }
-    }
-
-    /// Gives a truth to the atom with this term.
-    fn step_assign(
-        &mut self,
-        alloc: Global,
-        atom: &Value,
-        truth: Truth,
-    ) -> Result<Reply, OutOfMemory>
-        ensures ok { IfOk result (IsDone self.old (Assign atom.now truth) self.new) }
-        ensures err { OnErr result (IsSealed self.old self.new) }
-    {
-        let Some(a) = self.find(alloc, atom)? else {
-            return Ok(Reply::NoEffect);
-        };
-        match self.assign(a, truth)? {
-            Effect::Done => Ok(Reply::Assigned),
-            Effect::NoEffect => Ok(Reply::NoEffect),
-        }
-    }
-
-    /// Releases the atom with this term.
-    fn step_release(&mut self, alloc: Global, atom: &Value) -> Result<Reply, OutOfMemory>
-        ensures ok { IfOk result (IsDone self.old (Release atom.now) self.new) }
-        ensures err { OnErr result (IsSealed self.old self.new) }
-    {
-        let Some(a) = self.find(alloc, atom)? else {
-            return Ok(Reply::NoEffect);
-        };
-        match self.release(a)? {
-            Effect::Done => Ok(Reply::Released),
-            Effect::NoEffect => Ok(Reply::NoEffect),
-        }
+        let reply = self.open.step(alloc, command);
+        seal_on_failure(&mut self.sealed, reply)
     }
 
     /// Appends the text of a reply that this session gave, or of another one without atoms. Where there is no memory
@@ -281,8 +208,16 @@ impl Session {
         if self.sealed {
             return Err(OutOfMemory);
         }
-        let printed = print(&self.terms, reply, into);
-        self.sealed = printed.is_err();
-        printed
+        let printed = self.open.print(reply, into);
+        seal_on_failure(&mut self.sealed, printed)
     }
+}
+
+/// Hands on the answer of a call of an open session, and seals the session exactly where it is want of memory.
+fn seal_on_failure<T>(sealed: &mut bool, answer: Result<T, OutOfMemory>) -> Result<T, OutOfMemory>
+    ensures sealed { sealed.new ≡ is_err answer }
+    ensures same { result ≡ answer }
+{
+    *sealed = answer.is_err();
+    answer
 }

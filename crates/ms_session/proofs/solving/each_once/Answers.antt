@@ -1,4 +1,4 @@
-use Rattle.std.proofs.Common.{◌≡◌, ℕ, List, Bool, true, get_or, sym, subst, eqb, eqb-true}
+use Rattle.std.proofs.Common.{◌≡◌, true, get_or, sym, subst, eqb-true}
 use Rattle.std.specs.Cmp.{booleans_Decides, first_so, second_so}
 use Rattle.std.specs.List.{All, dedup}
 use Rattle.std.proofs.lemmas.List.Filters.{All-dedup, dedup_is}

@@ -4,7 +4,7 @@ use Rattle.ms_join.specs.AnswerSets.{IsAtomSet}
 use Rattle.ms_join.specs.declared.assumption.AtomLit.{AtomLit}
 use Rattle.ms_join.specs.Assumptions.{IsMeetingAnswer}
 use Rattle.ms_solving.specs.Listing.{AreAnswers}
-use Rattle.ms_session.proofs.solving.list_answers.Goals as goal
+use Rattle.ms_session.proofs.open_session.Open.list_answers.Goals as goal
 
 -- answers over a base are sets over it
 over_base : (n m : ℕ) (join : Rules) (lits : List AtomLit) (sets lent : List (List ℕ)) → n ≡ m → lent ≡ sets → AreAnswers (IsMeetingAnswer n join lits) sets → All (IsAtomSet m) lent
@@ -14,4 +14,4 @@ over_base n m join lits sets lent same is answers =
 
 pub listing-requires-clause-over_base : goal.listing-requires-clause-over_base
 listing-requires-clause-over_base c =
-    over_base _ (length c.args.base.now) _ _ _ _ c.len.ensures c.as_slice.ensures c.in_ok-found.ensures.true_ones
+    over_base _ (length c.args.self.now.base) _ _ _ _ c.len.ensures c.as_slice.ensures c.in_ok-found.ensures.true_ones

@@ -1,0 +1,17 @@
+use Rattle.std.proofs.Common.{length, refl}
+use Rattle.ms_session.specs.Opened.{names_of}
+use Rattle.ms_session.proofs.Refusing.{atoms_within, refuses}
+use Rattle.ms_session.proofs.open_session.Open.join_module.Goals as goal
+
+pub returns-in_ok-refusal-in-Err-clause-joins : goal.returns-in_ok-refusal-in-Err-clause-joins
+returns-in_ok-refusal-in-Err-clause-joins c =
+    let s = c.args.self.now in (
+      refuses (names_of s) s.join c.args.ground_module.now c.in-Err.fault c.in_ok-refusal-in-Err.refusal c.in-Err.ensures c.in_ok-refusal-in-Err.ensures,
+      c.back_to.ensures,
+      refl,
+    )
+
+pub refusal_of-requires-clause-within : goal.refusal_of-requires-clause-within
+refusal_of-requires-clause-within c =
+    let s = c.args.self.now in
+    atoms_within (names_of s) s.join c.args.ground_module.now (length s.base) c.in-Err.fault c.requires.counted c.rules.ensures.join c.requires.well_formed c.in-Err.ensures

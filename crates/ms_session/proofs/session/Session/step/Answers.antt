@@ -1,0 +1,9 @@
+use Rattle.ms_session.proofs.Sealing.{done}
+use Rattle.ms_session.proofs.session.Session.step.Goals as goal
+
+pub returns-clause-ok : goal.returns-clause-ok
+returns-clause-ok c =
+    let s = c.self.inside in
+    rw (← c.self.view_is)
+    (done s.sealed c.seal_on_failure.new.sealed s.open c.step-reply.new.self s.notes c.args.command c.seal_on_failure.result c.step-reply.result
+    c.seal_on_failure.ensures.same c.if-self.false c.seal_on_failure.ensures.sealed c.self.invariant.0 c.step-reply.ensures)
