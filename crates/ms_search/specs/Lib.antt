@@ -1,0 +1,6 @@
+pub mod Problems
+pub mod Jumps
+pub mod Points
+pub mod Notes
+pub mod Engines
+pub mod Runs
