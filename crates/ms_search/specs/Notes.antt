@@ -1,4 +1,5 @@
 -- The lines that a search adds.
+use Rattle.std.specs.Prelude.{Bool, true, false}
 use Rattle.ms_lits.specs.declared.note.Note.{Note}
 use Rattle.ms_lits.specs.declared.note.Note.TheVariants as notes
 use Rattle.ms_lits.specs.Literals.{Nogood}
@@ -11,3 +12,8 @@ note_of Base lits = notes.Theory lits
 note_of Kept lits = notes.Kept lits
 note_of Temporary lits = notes.Temporary lits
 note_of Reason lits = notes.Theory lits
+
+-- the kind of a learned nogood: it lasts where it doesn't rest on a temporary one
+abbrev pub learned_kind : Bool → Kind
+learned_kind true = Temporary
+learned_kind false = Kept

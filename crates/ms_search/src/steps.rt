@@ -5,6 +5,7 @@ ghost use Rattle.ms_nogood.specs.Propagation.{Answers, IsSettled, IsWholeAt, IsW
 ghost use Rattle.ms_nogood.specs.Store.{Store, nogood_at};
 ghost use Rattle.ms_nogood.specs.Theories.{IsTheoryNogood};
 ghost use Rattle.ms_lawful.specs.Problems.{Problem};
+ghost use Rattle.ms_search.specs.Notes.{learned_kind};
 ghost use Rattle.ms_search.specs.Engines.{AllAssigned, IsAskOf, IsNext, IsReady, point_of, truth_in};
 ghost use Rattle.ms_search.specs.Points.{IsPoint, IsRound, IsStep};
 ghost use Rattle.ms_search.specs.Problems.{IsTarget, MeansTheSame, nothing_asked};
@@ -66,7 +67,7 @@ impl<P: Propagate + Drop> Engine<P> {
             self.take_given::<K, T>(lits.as_slice(), store, theory, log)?;
             return Ok(None);
         }
-        match self.next(ask) {
+        match self.next(ask.assume.as_slice()) {
             Next::False => Ok(Some(Ending::Complete)),
             Next::Assume(lit) => {
                 self.decide(lit)?;
@@ -126,7 +127,7 @@ impl<P: Propagate + Drop> Engine<P> {
         }
         let learned = analyze(self.alloc, &self.trail, store, key)?;
         self.bump(&learned)?;
-        let kind = if learned.temporary { Kind::Temporary } else { Kind::Kept };
+        let kind = kind_of(learned.temporary);
         let mut lits = learned.lits.into_vec();
         put_in_order(lits.as_mut_slice());
         log.nogood(kind, lits.as_slice())?;
@@ -165,12 +166,12 @@ impl<P: Propagate + Drop> Engine<P> {
         self.take(lits, Kind::Reason, store, theory)
     }
 
-    /// What is demanded next on the trail.
-    fn next(&self, ask: &Ask) -> Next
-        requires { All (λ lit. lit.var < self.now.trail.room) ask.now.assume }
-        ensures { IsNext self.now.trail.entries ask.now.assume result }
+    /// What of these is demanded next on the trail.
+    fn next(&self, demanded: &[Lit]) -> Next
+        requires { All (λ lit. lit.var < self.now.trail.room) demanded.now }
+        ensures { IsNext self.now.trail.entries demanded.now result }
     {
-        for lit in ask.assume.as_slice() {
+        for lit in demanded {
             match self.trail.value(lit.var) {
                 None => return Next::Assume(*lit),
                 Some(truth) => {
@@ -222,10 +223,24 @@ impl<P: Propagate + Drop> Engine<P> {
     {
         let mut answer = Vec::new(self.alloc);
         for atom in atoms {
-            if self.trail.value(*atom) == Some(true) {
+            if self.is_true(*atom) {
                 answer.push(*atom)?;
             }
         }
         Ok(answer)
     }
+
+    fn is_true(&self, atom: u32) -> bool
+        requires { atom < self.now.trail.room }
+        ensures { result ≡ truth_in self.now.trail.entries atom }
+    {
+        self.trail.value(atom).unwrap_or(false)
+    }
+}
+
+/// The kind of a learned nogood.
+fn kind_of(temporary: bool) -> Kind
+    ensures { result ≡ learned_kind temporary }
+{
+    if temporary { Kind::Temporary } else { Kind::Kept }
 }
