@@ -6,3 +6,4 @@ pub mod Lines
 pub mod Moves
 pub mod Answers
 pub mod Readies
+pub mod Rounds

@@ -71,7 +71,7 @@ take_taken (x ∷ xs) (suc m) (suc n) less = ap (λ (ys : List Entry). x ∷ ys)
 take_twice : (xs : List Entry) (m n k : ℕ) → m ≤ n → m ≤ k → take m (take n (take k xs)) ≡ take m xs
 take_twice xs m n k below_n below_k = take_taken (take k xs) m n below_n ∙ take_taken xs m k below_k
 
-taken_length : (es front : List Entry) → BeginWith es front → length front ≤ length es
+pub taken_length : (es front : List Entry) → BeginWith es front → length front ≤ length es
 taken_length es front is = omega (arith, ap length is, take_most (length front) es)
 
 -- a front of a front

@@ -54,6 +54,14 @@ impl Choice {
         self.rank(var)
     }
 
+    /// These variables were resolved upon at a conflict.
+    pub(crate) fn learn(&mut self, resolved: &[u32]) -> Result<(), OutOfMemory> {
+        for var in resolved {
+            self.bump(*var)?;
+        }
+        self.decay()
+    }
+
     /// A conflict was looked at: what was bumped before counts for less from now on.
     pub(crate) fn decay(&mut self) -> Result<(), OutOfMemory> {
         self.gain = self.gain.saturating_add(self.gain / 16);

@@ -13,8 +13,8 @@ ghost use Rattle.ms_search.specs.Problems.{IsTarget, MeansTheSame, nothing_asked
 use crate::ask::Ask;
 use crate::engine::Engine;
 use crate::log::Log;
-use crate::order::put_in_order;
-use ms_analyze::{Learned, analyze};
+use crate::order::in_order;
+use ms_analyze::analyze;
 use ms_lits::{Ending, Lit, OutOfMemory};
 use ms_nogood::{Kind, Nogoods, Propagate, Scan, Theory, Verdict};
 use std::marker::Brand;
@@ -126,24 +126,13 @@ impl<P: Propagate + Drop> Engine<P> {
             return Ok(Some(Ending::Cut));
         }
         let learned = analyze(self.alloc, &self.trail, store, key)?;
-        self.bump(&learned)?;
+        self.choice.learn(learned.resolved.as_slice())?;
         let kind = kind_of(learned.temporary);
-        let mut lits = learned.lits.into_vec();
-        put_in_order(lits.as_mut_slice());
+        let lits = in_order(learned.lits.into_vec());
         log.nogood(kind, lits.as_slice())?;
         log.spent += 1;
         self.take(lits.as_slice(), kind, store, theory)?;
         Ok(None)
-    }
-
-    /// Tells the choice what was resolved upon.
-    fn bump(&mut self, learned: &Learned) -> Result<(), OutOfMemory>
-        ensures { self.new ≡ record self.old { choice = self.new.choice } }
-    {
-        for var in learned.resolved.as_slice() {
-            self.choice.bump(*var)?;
-        }
-        self.choice.decay()
     }
 
     /// Takes in a nogood that the theory gave.
@@ -163,7 +152,8 @@ impl<P: Propagate + Drop> Engine<P> {
         ensures means { OnOk result (MeansTheSame (T.vars theory.old) (T.vars theory.new) (T.leans_on theory.old) (T.leans_on theory.new) (T.Gives theory.old) (T.Gives theory.new) (T.Settled theory.old) (T.Settled theory.new)) }
     {
         log.nogood(Kind::Reason, lits)?;
-        self.take(lits, Kind::Reason, store, theory)
+        self.take(lits, Kind::Reason, store, theory)?;
+        Ok(())
     }
 
     /// What of these is demanded next on the trail.
@@ -207,8 +197,7 @@ impl<P: Propagate + Drop> Engine<P> {
     {
         let answer = self.true_atoms(atoms)?;
         log.answer(answer)?;
-        let mut own = Vec::from_slice(self.alloc, self.decisions.as_slice())?;
-        put_in_order(own.as_mut_slice());
+        let own = in_order(Vec::from_slice(self.alloc, self.decisions.as_slice())?);
         log.nogood(Kind::Temporary, own.as_slice())?;
         self.take(own.as_slice(), Kind::Temporary, store, theory)?;
         if log.answers.len() as u64 == ask.count {
