@@ -215,3 +215,9 @@ line_same lines lits sorted kind same first second =
 pub learned_other : (label : Bool) → learned_kind label ≡ Base → ⊥
 learned_other true same = cc
 learned_other false same = cc
+
+-- and of variables that there are
+pub own_room : (problem : Problem) (a : Assignment) (ds : List Lit) (store : Store) → IsOnTrail problem a ds store → All (λ (l : Lit). l.var < a.room) ds
+own_room problem a ds store t k d lt =
+    let one = t.placed k d lt in
+    subst (λ (l : Lit). l.var < a.room) (one.lit_is no_entry) (t.assignment.within one.place no_entry one.within)

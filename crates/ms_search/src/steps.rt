@@ -197,7 +197,8 @@ impl<P: Propagate + Drop> Engine<P> {
     {
         let answer = self.true_atoms(atoms)?;
         log.answer(answer)?;
-        let own = in_order(Vec::from_slice(self.alloc, self.decisions.as_slice())?);
+        let decisions = Vec::from_slice(self.alloc, self.decisions.as_slice())?;
+        let own = in_order(decisions);
         log.nogood(Kind::Temporary, own.as_slice())?;
         self.take(own.as_slice(), Kind::Temporary, store, theory)?;
         if log.answers.len() as u64 == ask.count {
