@@ -6,3 +6,5 @@ pub mod Lines
 pub mod Moves
 pub mod Answers
 pub mod Readies
+pub mod Lists
+pub mod Wires
