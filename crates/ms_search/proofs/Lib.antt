@@ -7,4 +7,6 @@ pub mod Moves
 pub mod Answers
 pub mod Readies
 pub mod Lists
+pub mod Begins
+pub mod Ends
 pub mod Wires
