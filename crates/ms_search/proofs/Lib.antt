@@ -7,3 +7,7 @@ pub mod Moves
 pub mod Answers
 pub mod Readies
 pub mod Rounds
+pub mod Lists
+pub mod Begins
+pub mod Ends
+pub mod Wires

@@ -183,6 +183,7 @@ over_complete problem p c l refuted = record {
   };
   answers = l.listed;
   kept = c.kept;
+  order = c.order;
 }
 
 -- and where the limit is reached
@@ -196,4 +197,5 @@ over_cut problem p c l all = record {
   };
   answers = l.listed;
   kept = c.kept;
+  order = c.order;
 }

@@ -4,3 +4,4 @@ pub mod Points
 pub mod Notes
 pub mod Engines
 pub mod Runs
+pub mod Posed

@@ -1,3 +1,7 @@
+ghost use Rattle.std.specs.Prelude.{◌≡◌, ◌<◌, ◌≤◌, IfNone, IfSome, None, length};
+ghost use Rattle.ms_lits.specs.Assignment.{value_in};
+ghost use Rattle.ms_search.specs.Engines.{AllAssigned};
+
 use ms_lits::{Lit, OutOfMemory, Trail};
 use std::alloc::Global;
 use std::collections::BinaryHeap;
@@ -5,7 +9,7 @@ use std::collections::BinaryHeap;
 /// How much a variable that was resolved upon gains at first.
 const FIRST_GAIN: u64 = 1 << 10;
 
-/// Activities are halved before one of them passes this.
+/// Where the gain reaches this, the activities and the gain are scaled down.
 const GREATEST: u64 = 1 << 56;
 
 /// A variable, ranked by the activity that it had when it was ranked.
@@ -84,7 +88,12 @@ impl Choice {
     }
 
     /// The literal to decide, or None where each variable below this number is assigned.
-    pub(crate) fn next(&mut self, trail: &Trail, vars: u32) -> Option<Lit> {
+    pub(crate) fn next(&mut self, trail: &Trail, vars: u32) -> Option<Lit>
+        requires { vars ≤ trail.now.room }
+        ensures within { IfSome result (λ lit. lit.var < vars) }
+        ensures free { IfSome result (λ lit. value_in trail.now.entries lit.var ≡ None) }
+        ensures none { IfNone result (AllAssigned vars trail.now.entries) }
+    {
         while let Some(rank) = self.ranks.pop() {
             if rank.var < vars && trail.value(rank.var).is_none() {
                 return Some(self.literal(rank.var));
@@ -97,7 +106,9 @@ impl Choice {
         Some(self.literal(var))
     }
 
-    fn literal(&self, var: u32) -> Lit {
+    fn literal(&self, var: u32) -> Lit
+        ensures { result.var ≡ var }
+    {
         let truth = self.signs.get(var as usize).copied().unwrap_or(false);
         Lit { var, truth }
     }
@@ -126,6 +137,17 @@ impl Choice {
     }
 }
 
-fn first_free(trail: &Trail, vars: u32) -> Option<u32> {
-    (0..vars).find(|var| trail.value(*var).is_none())
+/// The least unassigned variable, or None where each below this number is assigned.
+fn first_free(trail: &Trail, vars: u32) -> Option<u32>
+    requires { vars ≤ trail.now.room }
+    ensures within { IfSome result (λ var. var < vars) }
+    ensures free { IfSome result (λ var. value_in trail.now.entries var ≡ None) }
+    ensures none { IfNone result (AllAssigned vars trail.now.entries) }
+{
+    for var in 0..vars {
+        if trail.value(var).is_none() {
+            return Some(var);
+        }
+    }
+    None
 }

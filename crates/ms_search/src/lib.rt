@@ -9,6 +9,7 @@ mod log;
 mod order;
 mod search;
 mod steps;
+mod wiring;
 
 pub use ask::{Ask, Run};
 pub use ms_nogood::OutOfMemory;

@@ -1,8 +1,9 @@
-ghost use Rattle.std.specs.Prelude.{◌≡◌, ◌++◌, ◌∷◌, [], OnOk};
+ghost use Rattle.std.specs.Prelude.{◌≡◌, ◌++◌, ◌∷◌, [], IfOk, OnOk};
 ghost use Rattle.ms_search.specs.Notes.{note_of};
 
+use crate::ask::{Ask, Run};
 use ms_base::seq::Seq;
-use ms_lits::{Answers, Lit, Note, OutOfMemory};
+use ms_lits::{Answers, Ending, Lit, Note, OutOfMemory};
 use ms_nogood::Kind;
 use std::alloc::Global;
 
@@ -51,6 +52,22 @@ impl Log {
         self.lines.push(Note::Answer(Seq::from_vec(copy)))?;
         self.answers.push(Seq::from_vec(atoms))?;
         Ok(())
+    }
+
+    /// What a search found, with the line of what was demanded before the others.
+    pub(crate) fn told(mut self, ending: Ending, ask: &Ask) -> Result<Run, OutOfMemory>
+        ensures ending { IfOk result (λ run. run.ending ≡ ending) }
+        ensures answers { IfOk result (λ run. run.answers ≡ self.answers) }
+        ensures notes { IfOk result (λ run. run.notes ≡ Note.Start ask.now.impossible ask.now.assume ∷ self.lines.items) }
+    {
+        let assume = Vec::from_slice(self.alloc, ask.assume.as_slice())?;
+        let start = Note::Start(ask.impossible, Seq::from_vec(assume));
+        self.lines.insert(0, start)?;
+        Ok(Run {
+            ending,
+            answers: self.answers,
+            notes: Seq::from_vec(self.lines),
+        })
     }
 }
 
