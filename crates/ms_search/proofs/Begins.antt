@@ -225,3 +225,11 @@ goes_on_begun store = record { stays = λ key s is. is; added = λ key s is. inl
 -- nothing was seen of a trail that was cut to nothing
 pub seen_nothing : (seen left entries : List Entry) → entries ≡ [] → BeginWith (take 0 seen) left → BeginWith entries left
 seen_nothing seen left entries none begins = subst (λ (es : List Entry). BeginWith es left) (sym none) begins
+
+take_nothing : (n : ℕ) → take {A = Entry} n [] ≡ []
+take_nothing zero = refl
+take_nothing (suc n) = refl
+
+-- what was seen of nothing
+pub nothing_seen : (seen left : List Entry) → BeginWith (take 0 seen) left → left ≡ []
+nothing_seen seen left begins = begins ∙ take_nothing (length left)

@@ -1,4 +1,4 @@
-use Rattle.std.proofs.Common.{ℕ, ◌≡◌, ◌<◌, ◌≤◌, ◌^◌, ◌∷◌, ◌++◌, Bool, List, Option, None, Result, Ok, Err, IfOk, ap, arith, max, sym, ◌∙◌, subst, refl}
+use Rattle.std.proofs.Common.{ℕ, ◌≡◌, ◌<◌, ◌≤◌, ◌^◌, [], ◌∷◌, ◌++◌, Bool, true, List, Option, None, Result, Ok, Err, IfOk, ap, arith, max, sym, ◌∙◌, subst, refl}
 use Rattle.std.specs.List.{cons_option}
 use Rattle.std.specs.declared.vec.Vec.{Vec}
 use Rattle.std.specs.declared.alloc.Global.{Global}
@@ -6,6 +6,7 @@ use Rattle.ms_lits.specs.declared.lit.Lit.{Lit}
 use Rattle.ms_lits.specs.declared.note.Note.{Note}
 use Rattle.ms_lits.specs.declared.note.Note.TheVariants.{Start}
 use Rattle.ms_lits.specs.declared.note.Ending.{Ending}
+use Rattle.ms_lits.specs.declared.note.Ending.TheVariants.{Complete}
 use Rattle.ms_lits.specs.Literals.{Nogood}
 use Rattle.ms_lits.specs.Assignment.{Assignment}
 use Rattle.ms_nogood.specs.Store.{Store}
@@ -13,11 +14,13 @@ use Rattle.ms_nogood.specs.Propagation.{IsWithin}
 use Rattle.ms_lawful.specs.Problems.{Problem}
 use Rattle.ms_lawful.specs.Parts.{kept_by, kept_in}
 use Rattle.ms_search.specs.declared.ask.Run.{Run}
+use Rattle.ms_search.specs.declared.log.Log.{Log}
 use Rattle.ms_search.specs.Engines.{point_of}
 use Rattle.ms_search.specs.Points.{IsOver, Point}
+use Rattle.ms_search.specs.Posed.{Lists}
 use Rattle.ms_search.specs.Runs.{IsRun, Leaves}
 use Rattle.ms_search.proofs.Begins.{covered_begun, goes_on_begun, point_begun, seen_nothing}
-use Rattle.ms_search.proofs.Ends.{leaves, run_told}
+use Rattle.ms_search.proofs.Ends.{leaves, run_lists, run_told}
 use Rattle.ms_search.proofs.Readies.{theory_still}
 use Rattle.ms_search.proofs.engine.Engine.solve.Goals as goal
 
@@ -74,3 +77,27 @@ returns-clause-leaves g c =
     (λ first none. leaves g.K.Target.problem c.args.store.now c.begin.new.store c.list.new.store c.finish.new.store (first ∷ c.list.new.log.lines.items) b.order b.begins c.in_ok-ending.ensures.ready.goes_on over.order c.finish.ensures.ends
     (over.kept ∙ ap (λ (o : Option Nogood). g.K.Target.problem.kept ++ cons_option o (kept_in c.list.new.log.lines.items)) (sym none)))
     c.told.ensures.notes
+
+told_lists : {E : Type 0} → (problem : Problem) (ending : Ending) (answers : List (List ℕ)) (lines : List Note) (told : Result Run E) → (problem.impossible ≡ true → (ending ≡ Complete) × (answers ≡ []) × (lines ≡ [])) → IfOk told (IsRun problem) → IfOk told (λ (run : Run). run.ending ≡ ending) → IfOk told (λ (run : Run). run.answers ≡ answers) → IfOk told (λ (run : Run). run.notes ≡ Start problem.impossible problem.start ∷ lines) → IfOk told (Lists problem)
+told_lists problem ending answers lines (Ok run) idle is ending_is answers_are notes = run_lists problem run is (λ impossible.
+    let none = idle impossible in
+    record {
+      complete = ending_is ∙ none.0;
+      notes = notes ∙ ap (λ (ls : List Note). Start problem.impossible problem.start ∷ ls) none.2;
+      answers = answers_are ∙ none.1;
+    })
+told_lists problem ending answers lines (Err e) idle is ending_is answers_are notes = tt
+
+pub returns-clause-lists : goal.returns-clause-lists
+returns-clause-lists g c =
+    let told = c.told.ensures in
+    let over = c.in_ok-ending.ensures in
+    let log = c.new-log.ensures in
+    told_lists g.K.Target.problem c.in_ok-ending.ending c.list.new.log.answers c.list.new.log.lines.items c.told.result
+    (λ impossible.
+    let idle = over.idle (sym c.requires.asked.impossible ∙ impossible) in
+    (idle.0, ap (λ (l : Log). l.answers) idle.1 ∙ log.answers, ap (λ (l : Log). l.lines.items) idle.1 ∙ log.lines))
+    (told_run g.K.Target.problem (point_of c.list.new.self c.list.new.store c.list.new.log) c.in_ok-ending.ending c.told.result over.over told.ending told.answers
+    (told_start g.K.Target.problem c.list.new.log.lines.items c.args.ask.now.impossible c.args.ask.now.assume c.told.result c.requires.asked.impossible c.requires.asked.start told.notes))
+    told.ending told.answers
+    (told_start g.K.Target.problem c.list.new.log.lines.items c.args.ask.now.impossible c.args.ask.now.assume c.told.result c.requires.asked.impossible c.requires.asked.start told.notes)

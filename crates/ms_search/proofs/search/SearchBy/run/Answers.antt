@@ -1,15 +1,11 @@
-use Rattle.std.proofs.Common.{ℕ, ◌≡◌, ◌<◌, false, Bool, List, Result, Ok, Err, IfOk, sym, subst}
+use Rattle.std.proofs.Common.{ℕ, ◌≡◌, ◌<◌, false, List, IfOk, sym, subst}
 use Rattle.std.specs.Prelude.{All}
 use Rattle.ms_lits.specs.declared.lit.Lit.{Lit}
 use Rattle.ms_lits.specs.Literals.{Nogood}
 use Rattle.ms_nogood.specs.Store.{Store}
-use Rattle.ms_lawful.specs.Problems.{Problem}
 use Rattle.ms_search.specs.declared.ask.Ask.{Ask}
-use Rattle.ms_search.specs.declared.ask.Run.{Run}
 use Rattle.ms_search.specs.Posed.{Lists}
 use Rattle.ms_search.specs.Problems.{AreUnique, IsTarget, problem_of}
-use Rattle.ms_search.specs.Runs.{IsRun}
-use Rattle.ms_search.proofs.Ends.{run_lists}
 use Rattle.ms_search.proofs.search.SearchBy.run.Goals as goal
 
 target_posed : (gives : Nogood → Type 0) (store : Store) (ask : Ask) (atoms : List ℕ) → ask.impossible ≡ false → AreUnique (problem_of gives store ask atoms) → All (λ (atom : ℕ). atom < ask.vars) atoms → All (λ (lit : Lit). lit.var < ask.vars) ask.assume → IsTarget (problem_of gives store ask atoms)
@@ -31,11 +27,6 @@ solve-run-requires-clause-target g c = λ possible.
     subst (λ (atoms : List ℕ). IsTarget (problem_of (g.T.Theory.Gives c.args.theory.now) c.args.store.now c.args.ask.now atoms)) (sym c.as_slice.ensures)
     (target_posed (g.T.Theory.Gives c.args.theory.now) c.args.store.now c.args.ask.now c.args.atoms.now possible c.requires.unique c.requires.atoms c.requires.demanded)
 
-told_lists : {E : Type 0} → (problem : Problem) (told : Result Run E) → IfOk told (IsRun problem) → IfOk told (Lists problem)
-told_lists problem (Ok run) is = run_lists problem run is
-told_lists problem (Err e) is = tt
-
 pub returns-clause-lists : goal.returns-clause-lists
 returns-clause-lists g c =
-    told_lists (problem_of (g.T.Theory.Gives c.args.theory.now) c.args.store.now c.args.ask.now c.args.atoms.now) c.solve-run.result
-    (subst (λ (atoms : List ℕ). IfOk c.solve-run.result (IsRun (problem_of (g.T.Theory.Gives c.args.theory.now) c.args.store.now c.args.ask.now atoms))) c.as_slice.ensures c.solve-run.ensures.run)
+    subst (λ (atoms : List ℕ). IfOk c.solve-run.result (Lists (problem_of (g.T.Theory.Gives c.args.theory.now) c.args.store.now c.args.ask.now atoms))) c.as_slice.ensures c.solve-run.ensures.lists
