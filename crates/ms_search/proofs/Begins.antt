@@ -6,12 +6,14 @@ use Rattle.std.proofs.lemmas.Bool.{both_ways, cases_eq, cases_lt}
 use Rattle.std.proofs.lemmas.List.{get_or-drop, get_or-take, get_or_default, length-drop, length-take-le}
 use Rattle.std.proofs.lemmas.List.Elements.{All-contains, All-contains_itself, Contains-get_or}
 use Rattle.ms_lits.specs.declared.lit.Lit.{Lit}
+use Rattle.ms_lits.specs.declared.trail.Entry.{Entry}
 use Rattle.ms_lits.specs.declared.note.Note.{Note}
 use Rattle.ms_lits.specs.Literals.{Nogood}
 use Rattle.ms_nogood.specs.Store.{AreKept, Store, Stored, Trims, awake_in, holds_kept, nogood_at, slot_at}
 use Rattle.ms_nogood.specs.declared.kind.Kind.{Kind}
 use Rattle.ms_nogood.specs.declared.kind.Kind.TheVariants.{Base, Kept, Temporary, Reason}
 use Rattle.ms_nogood.specs.Propagation.{IsStored, IsWithin}
+use Rattle.ms_nogood.specs.Theories.{BeginWith}
 use Rattle.ms_nogood.proofs.Propagation.{awake_same}
 use Rattle.ms_refutation.specs.Sets.{ContainsOne}
 use Rattle.ms_lawful.specs.Problems.{Problem}
@@ -219,3 +221,15 @@ point_begun problem p room trail_is decisions_are lines_are spent_is answers_are
 
 pub goes_on_begun : (store : Store) → GoesOn store store
 goes_on_begun store = record { stays = λ key s is. is; added = λ key s is. inl is }
+
+-- nothing was seen of a trail that was cut to nothing
+pub seen_nothing : (seen left entries : List Entry) → entries ≡ [] → BeginWith (take 0 seen) left → BeginWith entries left
+seen_nothing seen left entries none begins = subst (λ (es : List Entry). BeginWith es left) (sym none) begins
+
+take_nothing : (n : ℕ) → take {A = Entry} n [] ≡ []
+take_nothing zero = refl
+take_nothing (suc n) = refl
+
+-- what was seen of nothing
+pub nothing_seen : (seen left : List Entry) → BeginWith (take 0 seen) left → left ≡ []
+nothing_seen seen left begins = begins ∙ take_nothing (length left)

@@ -20,7 +20,7 @@ use Rattle.ms_lawful.proofs.Soundness.{complete_lists}
 use Rattle.ms_lawful.proofs.Stages.{lines_after}
 use Rattle.ms_search.specs.declared.ask.Run.{Run}
 use Rattle.ms_search.specs.Points.{GoesOn, IsOver, IsPoint, IsWired, Point}
-use Rattle.ms_search.specs.Posed.{Lists}
+use Rattle.ms_search.specs.Posed.{IsIdle, Lists}
 use Rattle.ms_search.specs.Problems.{AreLasting, kept_nogoods, literals_at}
 use Rattle.ms_search.specs.Runs.{AreAttached, Begins, IsRun, Leaves}
 use Rattle.ms_search.proofs.Begins.{awake_slot, slot_back, slot_stays}
@@ -53,8 +53,8 @@ run_told problem p ending run over ends answers notes = record {
 }
 
 -- a lawful run lists what it should
-pub run_lists : (problem : Problem) (run : Run) → IsRun problem run → Lists problem run
-run_lists problem run is =
+pub run_lists : (problem : Problem) (run : Run) → IsRun problem run → (problem.impossible ≡ true → IsIdle problem run) → Lists problem run
+run_lists problem run is idle =
     let listed = lines_listed problem is.lines is.lawful in
     record {
       members = subst (All problem.Member) (sym is.answers) listed.members;
@@ -63,6 +63,7 @@ run_lists problem run is =
           subst (λ (xs : List (List ℕ)). Contains xs (true_atoms problem truth)) (sym is.answers)
           (listed_from is.lines (true_atoms problem truth)
           (complete_lists problem truth is.lines admitted kept meets is.lawful (subst (EndsRun problem (stage_after first_stage is.lines)) complete is.ends)));
+      idle = idle;
     }
 
 -- what a solve doesn't drop is left as it is

@@ -1,5 +1,5 @@
 // A run of the search from its beginning to its end.
-ghost use Rattle.std.specs.Prelude.{ℕ, ◌≡◌, ◌<◌, ◌≤◌, ◌^◌, [], All, AllPairs, IfOk, List, OnOk, false, max};
+ghost use Rattle.std.specs.Prelude.{ℕ, ◌≡◌, ◌<◌, ◌≤◌, ◌^◌, [], All, IfOk, List, OnOk, false, max, true};
 ghost use Rattle.ms_lits.specs.declared.lit.Lit.{Lit};
 ghost use Rattle.ms_nogood.specs.Propagation.{IsWithin};
 ghost use Rattle.ms_nogood.specs.Store.{AreKept, EndsSolve, Store};
@@ -59,9 +59,9 @@ impl<P: Propagate + Drop> SearchBy<P> {
     }
 
     /// Lists answers, until as many are found as were asked for, there are no others, or as many nogoods were
-    /// learned as the limit allows. An answer is the list of the true ones among `atoms`, which rise. The log
-    /// says how it went. What was learned and is kept stays in the store, and of the kept nogoods of earlier
-    /// runs the last 200,000 count.
+    /// learned as the limit allows. An answer is the list of the true ones among `atoms`. The log says how it
+    /// went. What was learned and is kept stays in the store, and of the kept nogoods of earlier runs the last
+    /// 200,000 stay.
     pub fn run<T: Theory>(
         &mut self,
         store: &mut Nogoods,
@@ -73,7 +73,6 @@ impl<P: Propagate + Drop> SearchBy<P> {
         requires store { IsWithin store.old ask.now.vars }
         requires demanded { All (λ lit. lit.var < ask.now.vars) ask.now.assume }
         requires atoms { All (λ atom. atom < ask.now.vars) atoms.now }
-        requires rising { AllPairs (λ atom later. atom < later) atoms.now }
         requires vars { T.vars theory.old ≤ ask.now.vars }
         requires lasting { AreLasting store.old }
         requires leans_on { (nogood : List Lit) → T.leans_on theory.old nogood → IsBase store.old nogood }
@@ -86,6 +85,7 @@ impl<P: Propagate + Drop> SearchBy<P> {
         ensures lasting { OnOk result (AreLasting store.new) }
         ensures attached { OnOk result (AreAttached (P.attached self.new.propagation) store.new) }
         ensures in_step { OnOk result (P.InStep self.new.propagation store.new (empty_trail self.new.room)) }
+        ensures seen { OnOk result (T.Seen theory.new ≡ []) }
         ensures means { OnOk result (MeansTheSame (T.vars theory.old) (T.vars theory.new) (T.leans_on theory.old) (T.leans_on theory.new) (T.Gives theory.old) (T.Gives theory.new) (T.Settled theory.old) (T.Settled theory.new)) }
     {
         let run = self.engine.solve::<Brand, T>(store, theory, ask, atoms.as_slice());
@@ -115,10 +115,12 @@ impl<P: Propagate + Drop> Engine<P> {
         requires attached { AreAttached (P.attached self.old.propagation) store.old }
         requires in_step { P.InStep self.old.propagation store.old self.old.trail }
         ensures run { IfOk result (IsRun K.problem) }
+        ensures lists { IfOk result (Lists K.problem) }
         ensures leaves { IfOk result (λ run. Leaves K.problem run.notes store.old store.new) }
         ensures lasting { OnOk result (AreLasting store.new) }
         ensures attached { OnOk result (AreAttached (P.attached self.new.propagation) store.new) }
         ensures in_step { OnOk result (P.InStep self.new.propagation store.new (empty_trail self.new.trail.room)) }
+        ensures seen { OnOk result (T.Seen theory.new ≡ []) }
         ensures means { OnOk result (MeansTheSame (T.vars theory.old) (T.vars theory.new) (T.leans_on theory.old) (T.leans_on theory.new) (T.Gives theory.old) (T.Gives theory.new) (T.Settled theory.old) (T.Settled theory.new)) }
     {
         theory.back_to(0);
@@ -166,6 +168,7 @@ impl<P: Propagate + Drop> Engine<P> {
         requires point { IsPoint K.problem (point_of self.old store.old log.old) }
         requires ready { IsReady K.problem K.begun store.old self.old.trail.entries (P.attached self.old.propagation) (P.InStep self.old.propagation store.old self.old.trail) (T.Seen theory.old) (T.vars theory.old) (T.leans_on theory.old) (T.Gives theory.old) }
         ensures over { IfOk result (IsOver K.problem (point_of self.new store.new log.new)) }
+        ensures idle { IfOk result (λ ending. ask.now.impossible ≡ true → (ending ≡ Ending.Complete) × (log.new ≡ log.old)) }
         ensures ready { OnOk result (IsReady K.problem K.begun store.new self.new.trail.entries (P.attached self.new.propagation) (P.InStep self.new.propagation store.new self.new.trail) (T.Seen theory.new) (T.vars theory.new) (T.leans_on theory.new) (T.Gives theory.new)) }
         ensures means { OnOk result (MeansTheSame (T.vars theory.old) (T.vars theory.new) (T.leans_on theory.old) (T.leans_on theory.new) (T.Gives theory.old) (T.Gives theory.new) (T.Settled theory.old) (T.Settled theory.new)) }
     {
@@ -208,6 +211,7 @@ impl<P: Propagate + Drop> Engine<P> {
         ensures ends { EndsSolve store.old store.new }
         ensures wired { IsWired (P.attached self.new.propagation) store.new }
         ensures in_step { P.InStep self.new.propagation store.new self.new.trail }
+        ensures seen { T.Seen theory.new ≡ [] }
         ensures means { MeansTheSame (T.vars theory.old) (T.vars theory.new) (T.leans_on theory.old) (T.leans_on theory.new) (T.Gives theory.old) (T.Gives theory.new) (T.Settled theory.old) (T.Settled theory.new) }
     {
         self.detach_passing(store);
