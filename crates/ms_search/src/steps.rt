@@ -22,6 +22,7 @@ use std::marker::Brand;
 /// The problem of a search, and the store that it began with.
 pub(crate) trait Target {
     ghost problem: { Problem };
+
     ghost begun: { Store };
 }
 
@@ -256,5 +257,9 @@ impl<P: Propagate + Drop> Engine<P> {
 fn kind_of(temporary: bool) -> Kind
     ensures { result ≡ learned_kind temporary }
 {
-    if temporary { Kind::Temporary } else { Kind::Kept }
+    if temporary {
+        Kind::Temporary
+    } else {
+        Kind::Kept
+    }
 }
