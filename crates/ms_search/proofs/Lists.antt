@@ -32,4 +32,3 @@ filter_map-drop {X} h (suc n) (x ∷ xs) some =
     let one = cons_some (h x) (filter_map h xs) (some 0 x (omega arith)) in
     filter_map-drop h n xs (λ k d lt. some (suc k) d (omega (arith, lt)))
     ∙ sym (ap (drop (suc n)) one.1)
-

@@ -25,9 +25,10 @@ flipped l m = elim (cases_eq l.var m.var) [
 distinct_from : (lits : Nogood) → AreDifferent lits → IsDistinct same_var lits
 unfolding IsDistinct
 distinct_from [] different = tt
-distinct_from (l ∷ lits) different =
-    (recursion_from_All (λ (m : Lit). same_var l m ≡ false) lits (λ k d lt. ne_eqb l.var (get_or lits k d).var (different 0 (suc k) d (omega arith) (omega arith))),
-    distinct_from lits (λ i k d before lt. different (suc i) (suc k) d (omega arith) (omega arith)))
+distinct_from (l ∷ lits) different = (
+  recursion_from_All (λ (m : Lit). same_var l m ≡ false) lits (λ k d lt. ne_eqb l.var (get_or lits k d).var (different 0 (suc k) d (omega arith) (omega arith))),
+  distinct_from lits (λ i k d before lt. different (suc i) (suc k) d (omega arith) (omega arith)),
+)
 
 different_from : (lits : Nogood) → IsDistinct same_var lits → AreDifferent lits
 unfolding IsDistinct

@@ -11,12 +11,12 @@ use Rattle.ms_lits.specs.declared.note.Note.TheVariants as notes
 use Rattle.ms_lits.specs.declared.note.Ending.{Ending}
 use Rattle.ms_lits.specs.declared.note.Ending.TheVariants.{StillOpen}
 use Rattle.ms_lits.specs.Literals.{IsClosed, IsRefuted, Nogood}
-use Rattle.ms_lits.specs.Assignment.{Assignment, HoldsIn, IsAssignment, IsWholeIn}
+use Rattle.ms_lits.specs.Assignment.{Assignment, HoldsIn, IsAssignment, IsWholeIn, entry_made, value_in}
 use Rattle.ms_nogood.specs.Store.{Store, Stored, nogood_at}
 use Rattle.ms_nogood.specs.declared.kind.Kind.{Kind}
 use Rattle.ms_nogood.specs.declared.kind.Kind.TheVariants.{Base, Kept, Temporary, Reason}
 use Rattle.ms_nogood.specs.Propagation.{IsSettled, IsStored, IsWholeAt, Propagates, held_in}
-use Rattle.ms_nogood.specs.Theories.{AreRising, BeginWith, HasAll, IsTheoryNogood, IsTotal}
+use Rattle.ms_nogood.specs.Theories.{Agree, AreRising, BeginWith, HasAll, IsTheoryNogood, IsTotal}
 use Rattle.ms_nogood.proofs.Propagation.{propagates_longer, stored_among}
 use Rattle.ms_analyze.specs.Analysis.{HasLevel, HasTemporaryReason, IsAsserting, IsGreatestBelow, IsNotTemporary, IsTemporaryAt}
 use Rattle.ms_analyze.specs.Cuts.{no_entry}
@@ -25,12 +25,12 @@ use Rattle.ms_lawful.specs.Lines.{answers_in, first_stage, nogood_of, nogoods_in
 use Rattle.ms_lawful.proofs.Stages.{lines_after}
 use Rattle.ms_search.specs.Engines.{AllAssigned, IsReady, truth_in}
 use Rattle.ms_search.specs.Notes.{learned_kind, note_of}
-use Rattle.ms_search.specs.Points.{AreCovered, AreLogged, IsOnTrail, IsOver, IsPoint, IsRound, IsStep, IsWired, Point, TakesIn, work}
+use Rattle.ms_search.specs.Points.{AreCovered, AreLogged, IsOnTrail, IsOver, IsPoint, IsRound, IsStep, IsWired, Point, TakesIn, with_decision, work}
 use Rattle.ms_search.specs.Problems.{IsTarget, IsTheoryOf, MeansTheSame}
 use Rattle.ms_search.proofs.Answers.{AreAnswered, answer_admitted, answer_logged, own_within, still_asked, under_is}
 use Rattle.ms_search.proofs.Lines.{covered_answered, covered_gained, logged_push}
-use Rattle.ms_search.proofs.Moves.{given_follows, kept_follows, learned_within, line_step, point_made, temporary_answered_at, temporary_follows}
-use Rattle.ms_search.proofs.OnTrail.{trail_propagated}
+use Rattle.ms_search.proofs.Moves.{decided_step, given_follows, kept_follows, learned_within, line_step, point_made, temporary_answered_at, temporary_follows}
+use Rattle.ms_search.proofs.OnTrail.{levels_few, trail_propagated}
 use Rattle.ms_search.proofs.Orders.{AreDifferent}
 use Rattle.ms_search.proofs.Readies.{goes_on_gained, taken_length, theory_still, whole_present}
 
@@ -46,16 +46,16 @@ less_longer : (x k r m n : ℕ) → n ≤ m → x < k * (r + 1) + (r - m) → x 
 less_longer x k r m n less below = omega (arith, less, below)
 
 -- a step from there
-pub step_propagated : (problem : Problem) (a b : Assignment) (ds : List Lit) (store : Store) (lines : List Note) (spent : ℕ) (answers : List (List ℕ)) (new : Point) → Propagates store a b → IsStep problem (point_made b ds store lines spent answers) new → IsStep problem (point_made a ds store lines spent answers) new
-step_propagated problem a b ds store lines spent answers new more step = record {
+pub step_propagated : (problem : Problem) (a b : Assignment) (ds es : List Lit) (store : Store) (lines : List Note) (spent : ℕ) (answers : List (List ℕ)) (new : Point) → Propagates store a b → IsStep problem (point_made b es store lines spent answers) new → IsStep problem (point_made a ds store lines spent answers) new
+step_propagated problem a b ds es store lines spent answers new more step = record {
   point = step.point;
   less = less_longer (work problem.things new.trail new.lines) (3 ^ problem.things - length (nogoods_in lines)) a.room (length b.entries) (length a.entries) (propagates_longer store a b more)
       (subst (λ (r : ℕ). work problem.things new.trail new.lines < (3 ^ problem.things - length (nogoods_in lines)) * (r + 1) + (r - length b.entries)) more.room step.less);
 }
 
-pub round_propagated : (problem : Problem) (a b : Assignment) (ds : List Lit) (store : Store) (lines : List Note) (spent : ℕ) (answers : List (List ℕ)) (new : Point) (ending : Option Ending) → Propagates store a b → IsRound problem (point_made b ds store lines spent answers) new ending → IsRound problem (point_made a ds store lines spent answers) new ending
-round_propagated problem a b ds store lines spent answers new None more round = step_propagated problem a b ds store lines spent answers new more round
-round_propagated problem a b ds store lines spent answers new (Some ending) more round = round
+pub round_propagated : (problem : Problem) (a b : Assignment) (ds es : List Lit) (store : Store) (lines : List Note) (spent : ℕ) (answers : List (List ℕ)) (new : Point) (ending : Option Ending) → Propagates store a b → IsRound problem (point_made b es store lines spent answers) new ending → IsRound problem (point_made a ds store lines spent answers) new ending
+round_propagated problem a b ds es store lines spent answers new None more round = step_propagated problem a b ds es store lines spent answers new more round
+round_propagated problem a b ds es store lines spent answers new (Some ending) more round = round
 
 -- what entries begin with, longer entries begin with
 pub begins_longer : (es more front : List Entry) → BeginWith es front → BeginWith (es ++ more) front
@@ -124,6 +124,7 @@ over_open problem p c l all = record {
   };
   answers = l.listed;
   kept = c.kept;
+  order = c.order;
 }
 
 module _ (problem : Problem) (a b : Assignment) (ds left : List Lit) (old new : Store) (lines : List Note) (spent : ℕ) (answers : List (List ℕ)) (p : IsPoint problem (point_made a ds old lines spent answers)) (target : IsTarget problem) (settled : IsSettled old a.entries) (assigned : AllAssigned problem.things a.entries) (demanded : All (HoldsIn a.entries) problem.start) (accepts : (nogood : Nogood) → problem.Gives nogood → HasNogood (truth_in a.entries) nogood → ⊥) (answer : List ℕ) (is : answer ≡ true_atoms problem (truth_in a.entries)) (own : Nogood) (moved : IsPermutation ds own) (rising : AreRising own) (x : TakesIn a b ds left old new own Temporary) where
@@ -221,3 +222,54 @@ pub own_room : (problem : Problem) (a : Assignment) (ds : List Lit) (store : Sto
 own_room problem a ds store t k d lt =
     let one = t.placed k d lt in
     subst (λ (l : Lit). l.var < a.room) (one.lit_is no_entry) (t.assignment.within one.place no_entry one.within)
+
+-- what a theory gave, when it means what it meant
+pub given_still : (entries : List Entry) (lits slice : Nogood) (old_vars new_vars : ℕ) (old_gives new_gives : Nogood → Type 0) (old_settled new_settled : List Entry → Type 0) → new_vars ≡ old_vars → Agree new_gives old_gives → slice ≡ lits → IsTheoryNogood old_settled old_gives old_vars entries lits → IsTheoryNogood new_settled new_gives new_vars entries slice
+given_still entries lits slice old_vars new_vars old_gives new_gives old_settled new_settled vars gives same given =
+    subst (λ (ls : Nogood). IsTheoryNogood new_settled new_gives new_vars entries ls) (sym same) (record {
+      given = (gives lits).1 given.given;
+      violated_or_unit = given.violated_or_unit;
+      within = subst (λ (n : ℕ). All (λ (l : Lit). l.var < n) lits) (sym vars) given.within;
+      rising = given.rising;
+    })
+
+-- what the search keeps, after a propagation
+pub ready_propagated : (problem : Problem) (begun store : Store) (a b : Assignment) (attached wired : ℕ → Bool) (Before After : Type 0) (front : List Entry) (vars : ℕ) (leans gives : Nogood → Type 0) → IsReady problem begun store a.entries attached Before front vars leans gives → Propagates store a b → ((key : ℕ) → wired key ≡ attached key) → After → IsReady problem begun store b.entries wired After front vars leans gives
+ready_propagated problem begun store a b attached wired Before After front vars leans gives r more same step = record {
+  wired = λ key. same key ∙ r.wired key;
+  in_step = step;
+  seen = subst (λ (es : List Entry). BeginWith es front) (sym more.entries) (begins_longer a.entries more.added front r.seen);
+  theory = r.theory;
+  goes_on = r.goes_on;
+}
+
+-- after a theory looked
+pub ready_checked : (problem : Problem) (begun store : Store) (entries : List Entry) (attached : ℕ → Bool) (InStep : Type 0) (front seen : List Entry) (old_vars new_vars : ℕ) (old_leans new_leans old_gives new_gives : Nogood → Type 0) (old_settled new_settled : List Entry → Type 0) → IsReady problem begun store entries attached InStep front old_vars old_leans old_gives → BeginWith entries seen → MeansTheSame old_vars new_vars old_leans new_leans old_gives new_gives old_settled new_settled → IsReady problem begun store entries attached InStep seen new_vars new_leans new_gives
+ready_checked problem begun store entries attached InStep front seen old_vars new_vars old_leans new_leans old_gives new_gives old_settled new_settled r begins means = record {
+  wired = r.wired;
+  in_step = r.in_step;
+  seen = begins;
+  theory = theory_still problem old_vars new_vars old_leans new_leans old_gives new_gives old_settled new_settled r.theory means;
+  goes_on = r.goes_on;
+}
+
+-- and after a decision
+pub ready_decided : (problem : Problem) (begun store : Store) (a b : Assignment) (lit : Lit) (attached wired : ℕ → Bool) (Before After : Type 0) (front : List Entry) (vars : ℕ) (leans gives : Nogood → Type 0) → IsReady problem begun store a.entries attached Before front vars leans gives → b ≡ with_decision a lit → wired ≡ attached → After → IsReady problem begun store b.entries wired After front vars leans gives
+ready_decided problem begun store a b lit attached wired Before After front vars leans gives r is same step = record {
+  wired = subst (λ (f : ℕ → Bool). IsWired f store) (sym same) r.wired;
+  in_step = step;
+  seen = subst (λ (x : Assignment). BeginWith x.entries front) (sym is) (begins_longer a.entries (entry_made lit (a.level + 1) None ∷ []) front r.seen);
+  theory = r.theory;
+  goes_on = r.goes_on;
+}
+
+-- a decision is a step
+pub decided_to : (problem : Problem) (a b : Assignment) (ds left : List Lit) (store : Store) (lines : List Note) (spent : ℕ) (answers : List (List ℕ)) (lit : Lit) → IsPoint problem (point_made a ds store lines spent answers) → IsSettled store a.entries → lit.var < problem.things → value_in a.entries lit.var ≡ None → Contains problem.start lit ⊎ All (HoldsIn a.entries) problem.start → length a.entries < a.room → b ≡ with_decision a lit → left ≡ ds ++ lit ∷ [] → IsStep problem (point_made a ds store lines spent answers) (point_made b left store lines spent answers)
+decided_to problem a b ds left store lines spent answers lit p settled within free demanded fewer is more =
+    subst (λ (x : Assignment). IsStep problem (point_made a ds store lines spent answers) (point_made x left store lines spent answers)) (sym is)
+    (subst (λ (ls : List Lit). IsStep problem (point_made a ds store lines spent answers) (point_made (with_decision a lit) ls store lines spent answers)) (sym more)
+    (decided_step problem a ds store lines spent answers lit p settled within free demanded fewer))
+
+-- there is room for a level more
+pub level_free : (problem : Problem) (a : Assignment) (ds : List Lit) (store : Store) → IsOnTrail problem a ds store → length a.entries < a.room → a.level < a.room
+level_free problem a ds store t fewer = let few = levels_few problem a ds store t in omega (arith, few, fewer)

@@ -52,7 +52,7 @@ open_problem InProgram MayGive kept ask atoms = record {
 -- The problem of a search over a store with a theory that gives these: answers may be listed.
 abbrev pub problem_of : (Nogood → Type 0) → Store → Ask → List ℕ → Problem
 problem_of MayGive store ask atoms = record (open_problem (IsBase store) MayGive (last_of most_kept (kept_nogoods store)) ask atoms) {
-  Member = IsAnswer (open_problem (IsBase store) MayGive (last_of most_kept (kept_nogoods store)) ask atoms)
+  Member = IsAnswer (open_problem (IsBase store) MayGive (last_of most_kept (kept_nogoods store)) ask atoms);
 }
 
 -- a problem without things

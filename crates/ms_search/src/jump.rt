@@ -24,7 +24,11 @@ pub(crate) fn jump_level(lits: &[Lit], trail: &Trail) -> u32
             second = level;
         }
     }
-    if second < trail.level() as u64 { second as u32 } else { trail.level() }
+    if second < trail.level() as u64 {
+        second as u32
+    } else {
+        trail.level()
+    }
 }
 
 /// The level of a literal's variable, or the greatest number where it is unassigned.

@@ -88,7 +88,9 @@ impl<P: Propagate + Drop> SearchBy<P> {
         ensures seen { OnOk result (T.Seen theory.new ≡ []) }
         ensures means { OnOk result (MeansTheSame (T.vars theory.old) (T.vars theory.new) (T.leans_on theory.old) (T.leans_on theory.new) (T.Gives theory.old) (T.Gives theory.new) (T.Settled theory.old) (T.Settled theory.new)) }
     {
-        let run = self.engine.solve::<Brand, T>(store, theory, ask, atoms.as_slice());
+        let run = self
+            .engine
+            .solve::<Brand, T>(store, theory, ask, atoms.as_slice());
         self.engine.clear();
         run
     }

@@ -1,6 +1,6 @@
 // The steps of a search.
-ghost use Rattle.std.specs.Prelude.{ℕ, ◌≡◌, ◌<◌, [], All, IfOk, OnOk, filter, is_some, true};
-ghost use Rattle.ms_lits.specs.Assignment.{HoldsIn, IsAssignment};
+ghost use Rattle.std.specs.Prelude.{ℕ, ◌≡◌, ◌<◌, [], All, IfOk, None, OnOk, filter, is_some, length, true};
+ghost use Rattle.ms_lits.specs.Assignment.{HoldsIn, IsAssignment, value_in};
 ghost use Rattle.ms_nogood.specs.Propagation.{Answers, IsSettled, IsWholeAt, IsWithin, Propagates};
 ghost use Rattle.ms_nogood.specs.Store.{Store, nogood_at};
 ghost use Rattle.ms_nogood.specs.Theories.{IsTheoryNogood};
@@ -22,6 +22,7 @@ use std::marker::Brand;
 /// The problem of a search, and the store that it began with.
 pub(crate) trait Target {
     ghost problem: { Problem };
+
     ghost begun: { Store };
 }
 
@@ -63,6 +64,29 @@ impl<P: Propagate + Drop> Engine<P> {
         if let Scan::Violated(key) = self.propagate(store) {
             return self.conflict::<K, T>(key, store, theory, ask, log);
         }
+        self.advance::<K, T>(store, theory, ask, atoms, log)
+    }
+
+    /// Takes one step from a trail that is settled.
+    fn advance<K: Target, T: Theory>(
+        &mut self,
+        store: &mut Nogoods,
+        theory: &mut T,
+        ask: &Ask,
+        atoms: &[u32],
+        log: &mut Log,
+    ) -> Result<Option<Ending>, OutOfMemory>
+        requires target { IsTarget K.problem }
+        requires asked { IsAskOf K.problem ask.now atoms.now }
+        requires point { IsPoint K.problem (point_of self.old store.old log.old) }
+        requires settled { IsSettled store.old self.old.trail.entries }
+        requires looked { P.HasLooked self.old.propagation store.old self.old.trail }
+        requires fewer { (var : ℕ) → var < self.old.trail.room → value_in self.old.trail.entries var ≡ None → length self.old.trail.entries < self.old.trail.room }
+        requires ready { IsReady K.problem K.begun store.old self.old.trail.entries (P.attached self.old.propagation) (P.InStep self.old.propagation store.old self.old.trail) (T.Seen theory.old) (T.vars theory.old) (T.leans_on theory.old) (T.Gives theory.old) }
+        ensures round { IfOk result (IsRound K.problem (point_of self.old store.old log.old) (point_of self.new store.new log.new)) }
+        ensures ready { OnOk result (IsReady K.problem K.begun store.new self.new.trail.entries (P.attached self.new.propagation) (P.InStep self.new.propagation store.new self.new.trail) (T.Seen theory.new) (T.vars theory.new) (T.leans_on theory.new) (T.Gives theory.new)) }
+        ensures means { OnOk result (MeansTheSame (T.vars theory.old) (T.vars theory.new) (T.leans_on theory.old) (T.leans_on theory.new) (T.Gives theory.old) (T.Gives theory.new) (T.Settled theory.old) (T.Settled theory.new)) }
+    {
         if let Verdict::Nogood(lits) = theory.check(&self.trail)? {
             self.take_given::<K, T>(lits.as_slice(), store, theory, log)?;
             return Ok(None);
@@ -94,7 +118,8 @@ impl<P: Propagate + Drop> Engine<P> {
         ensures attached { (key : ℕ) → P.attached self.new.propagation key ≡ P.attached self.old.propagation key }
         ensures in_step { P.InStep self.new.propagation store.now self.new.trail }
         ensures looked { result ≡ Scan.Closed → P.HasLooked self.new.propagation store.now self.new.trail }
-        ensures decisions { self.new.decisions ≡ self.old.decisions }
+        ensures decisions { self.new.decisions.items ≡ self.old.decisions.items }
+        ensures fewer { (var : ℕ) → var < self.new.trail.room → value_in self.new.trail.entries var ≡ None → length self.new.trail.entries < self.new.trail.room }
     {
         let scan = self.propagation.propagate(store, &mut self.trail);
         self.assigned = self.trail.len();
@@ -232,5 +257,9 @@ impl<P: Propagate + Drop> Engine<P> {
 fn kind_of(temporary: bool) -> Kind
     ensures { result ≡ learned_kind temporary }
 {
-    if temporary { Kind::Temporary } else { Kind::Kept }
+    if temporary {
+        Kind::Temporary
+    } else {
+        Kind::Kept
+    }
 }
