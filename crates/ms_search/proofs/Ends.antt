@@ -12,6 +12,7 @@ use Rattle.ms_lits.specs.Literals.{Nogood}
 use Rattle.ms_nogood.specs.Store.{AreKept, EndsSolve, Store, Stored, awake_in, ends_by_kind, holds_kept, lasting, nogood_at, slot_at}
 use Rattle.ms_nogood.specs.declared.kind.Kind.{Kind}
 use Rattle.ms_nogood.specs.declared.kind.Kind.TheVariants.{Base, Kept, Temporary, Reason}
+use Rattle.ms_nogood.specs.Propagation.{IsWithin}
 use Rattle.ms_lawful.specs.Problems.{Problem, true_atoms}
 use Rattle.ms_lawful.specs.Lines.{EndsFor, EndsRun, answers_in, first_stage, stage_after}
 use Rattle.ms_lawful.specs.Parts.{kept_in}
@@ -38,8 +39,7 @@ over_impossible problem p point impossible =
         reason = ((let all = ap length (ap answers_in (lines_after first_stage p.lines) ∙ l.listed) in let few = l.few in omega (arith, all, few)), inl impossible);
       };
       answers = l.listed;
-      kept = point.covered.kept;
-      order = point.covered.order;
+      covered = point.covered;
     }
 
 -- what is told of a search that is over
@@ -143,3 +143,10 @@ attached_left attached store wired = record {
   known = λ key is. sym (wired key) ∙ is;
   fresh = λ key is. inl (wired key ∙ is);
 }
+
+-- and is of the same variables
+pub within_left : (over new : Store) (vars : ℕ) → EndsSolve over new → IsWithin over vars → IsWithin new vars
+within_left over new vars e within key s found =
+    let slot = awake_slot (slot_at new key) s found in
+    let from = lasting_back (slot_at over key) s (sym (e.lasts key) ∙ slot) in
+    within key s (ap awake_in (from.0 ∙ sym slot) ∙ found)

@@ -182,8 +182,7 @@ over_complete problem p c l refuted = record {
     reason = (few_answers problem p.lines p.answers p.spent l, inr (subst (λ (ls : List Note). IsRefuted (InFullStore problem ls) problem.start) (sym (lines_after first_stage p.lines)) (refuted_full problem p.store p.lines problem.start c refuted)));
   };
   answers = l.listed;
-  kept = c.kept;
-  order = c.order;
+  covered = c;
 }
 
 -- and where the limit is reached
@@ -196,6 +195,5 @@ over_cut problem p c l all = record {
     reason = (few_answers problem p.lines p.answers p.spent l, l.counted ∙ all);
   };
   answers = l.listed;
-  kept = c.kept;
-  order = c.order;
+  covered = c;
 }

@@ -124,8 +124,7 @@ over_open problem p c l all = record {
     reason = ap length (ap answers_in (lines_after first_stage p.lines) ∙ l.listed) ∙ all;
   };
   answers = l.listed;
-  kept = c.kept;
-  order = c.order;
+  covered = c;
 }
 
 module _ (problem : Problem) (a b : Assignment) (ds left : List Lit) (old new : Store) (lines : List Note) (spent : ℕ) (answers : List (List ℕ)) (p : IsPoint problem (point_made a ds old lines spent answers)) (target : IsTarget problem) (settled : IsSettled old a.entries) (assigned : AllAssigned problem.things a.entries) (demanded : All (HoldsIn a.entries) problem.start) (accepts : (nogood : Nogood) → problem.Gives nogood → HasNogood (truth_in a.entries) nogood → ⊥) (answer : List ℕ) (is : answer ≡ true_atoms problem (truth_in a.entries)) (own : Nogood) (moved : IsPermutation ds own) (rising : AreRising own) (x : TakesIn a b ds left old new own Temporary) where

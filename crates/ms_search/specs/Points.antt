@@ -136,8 +136,7 @@ pub record IsOver (problem : Problem) (p : Point) (ending : Ending) : Type 0 whe
   pub lawful : AreLines problem first_stage p.lines
   pub ends : EndsRun problem (stage_after first_stage p.lines) ending
   pub answers : answers_in p.lines ≡ p.answers
-  pub kept : kept_nogoods p.store ≡ problem.kept ++ kept_in p.lines
-  pub order : AreKept p.store.slots p.store.kept
+  pub covered : AreCovered problem p.store p.lines
 
 -- What a round comes to.
 abbrev pub IsRound : Problem → Point → Point → Option Ending → Type 0

@@ -82,6 +82,7 @@ impl<P: Propagate + Drop> SearchBy<P> {
         ensures run { IfOk result (IsRun (problem_of (T.Gives theory.old) store.old ask.now atoms.now)) }
         ensures lists { IfOk result (Lists (problem_of (T.Gives theory.old) store.old ask.now atoms.now)) }
         ensures leaves { IfOk result (λ run. Leaves (problem_of (T.Gives theory.old) store.old ask.now atoms.now) run.notes store.old store.new) }
+        ensures within { OnOk result (IsWithin store.new ask.now.vars) }
         ensures lasting { OnOk result (AreLasting store.new) }
         ensures attached { OnOk result (AreAttached (P.attached self.new.propagation) store.new) }
         ensures in_step { OnOk result (P.InStep self.new.propagation store.new (empty_trail self.new.room)) }
@@ -119,6 +120,7 @@ impl<P: Propagate + Drop> Engine<P> {
         ensures run { IfOk result (IsRun K.problem) }
         ensures lists { IfOk result (Lists K.problem) }
         ensures leaves { IfOk result (λ run. Leaves K.problem run.notes store.old store.new) }
+        ensures within { OnOk result (IsWithin store.new ask.now.vars) }
         ensures lasting { OnOk result (AreLasting store.new) }
         ensures attached { OnOk result (AreAttached (P.attached self.new.propagation) store.new) }
         ensures in_step { OnOk result (P.InStep self.new.propagation store.new (empty_trail self.new.trail.room)) }

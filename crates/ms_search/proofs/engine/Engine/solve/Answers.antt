@@ -1,4 +1,4 @@
-use Rattle.std.proofs.Common.{ℕ, ◌≡◌, ◌<◌, ◌≤◌, ◌^◌, [], ◌∷◌, ◌++◌, Bool, true, List, Option, None, Result, Ok, Err, IfOk, ap, arith, max, sym, ◌∙◌, subst, refl}
+use Rattle.std.proofs.Common.{ℕ, ◌≡◌, ◌<◌, ◌≤◌, ◌^◌, [], ◌∷◌, ◌++◌, Bool, true, List, Option, None, Result, Ok, Err, IfOk, OnOk, ap, arith, max, sym, ◌∙◌, subst, refl}
 use Rattle.std.specs.List.{cons_option}
 use Rattle.std.specs.declared.vec.Vec.{Vec}
 use Rattle.std.specs.declared.alloc.Global.{Global}
@@ -20,7 +20,7 @@ use Rattle.ms_search.specs.Points.{IsOver, Point}
 use Rattle.ms_search.specs.Posed.{Lists}
 use Rattle.ms_search.specs.Runs.{IsRun, Leaves}
 use Rattle.ms_search.proofs.Begins.{covered_begun, goes_on_begun, point_begun, seen_nothing}
-use Rattle.ms_search.proofs.Ends.{leaves, run_lists, run_told}
+use Rattle.ms_search.proofs.Ends.{leaves, run_lists, run_told, within_left}
 use Rattle.ms_search.proofs.Readies.{theory_still}
 use Rattle.ms_search.proofs.engine.Engine.solve.Goals as goal
 
@@ -50,6 +50,10 @@ list-requires-clause-ready g c =
       goes_on = goes_on_begun c.begin.new.store;
     }
 
+on_ok : {T E : Type 0} {P : Type 0} → (told : Result T E) → P → OnOk told P
+on_ok (Ok x) holds = holds
+on_ok (Err e) holds = tt
+
 -- the first line, by what the problem demands
 told_start : {E : Type 0} → (problem : Problem) (lines : List Note) (impossible : Bool) (start : List Lit) (told : Result Run E) → problem.impossible ≡ impossible → problem.start ≡ start → IfOk told (λ (run : Run). run.notes ≡ Start impossible start ∷ lines) → IfOk told (λ (run : Run). run.notes ≡ Start problem.impossible problem.start ∷ lines)
 told_start problem lines impossible start (Ok run) same_flag same_start notes = cc
@@ -74,8 +78,8 @@ returns-clause-leaves g c =
     let b = c.in_ok-begin.ensures in
     let over = c.in_ok-ending.ensures.over in
     told_leaves g.K.Target.problem c.list.new.log.lines.items c.args.ask.now.impossible c.args.ask.now.assume c.args.store.now c.finish.new.store c.told.result
-    (λ first none. leaves g.K.Target.problem c.args.store.now c.begin.new.store c.list.new.store c.finish.new.store (first ∷ c.list.new.log.lines.items) b.order b.begins c.in_ok-ending.ensures.ready.goes_on over.order c.finish.ensures.ends
-    (over.kept ∙ ap (λ (o : Option Nogood). g.K.Target.problem.kept ++ cons_option o (kept_in c.list.new.log.lines.items)) (sym none)))
+    (λ first none. leaves g.K.Target.problem c.args.store.now c.begin.new.store c.list.new.store c.finish.new.store (first ∷ c.list.new.log.lines.items) b.order b.begins c.in_ok-ending.ensures.ready.goes_on over.covered.order c.finish.ensures.ends
+    (over.covered.kept ∙ ap (λ (o : Option Nogood). g.K.Target.problem.kept ++ cons_option o (kept_in c.list.new.log.lines.items)) (sym none)))
     c.told.ensures.notes
 
 told_lists : {E : Type 0} → (problem : Problem) (ending : Ending) (answers : List (List ℕ)) (lines : List Note) (told : Result Run E) → (problem.impossible ≡ true → (ending ≡ Complete) × (answers ≡ []) × (lines ≡ [])) → IfOk told (IsRun problem) → IfOk told (λ (run : Run). run.ending ≡ ending) → IfOk told (λ (run : Run). run.answers ≡ answers) → IfOk told (λ (run : Run). run.notes ≡ Start problem.impossible problem.start ∷ lines) → IfOk told (Lists problem)
@@ -101,3 +105,9 @@ returns-clause-lists g c =
     (told_start g.K.Target.problem c.list.new.log.lines.items c.args.ask.now.impossible c.args.ask.now.assume c.told.result c.requires.asked.impossible c.requires.asked.start told.notes))
     told.ending told.answers
     (told_start g.K.Target.problem c.list.new.log.lines.items c.args.ask.now.impossible c.args.ask.now.assume c.told.result c.requires.asked.impossible c.requires.asked.start told.notes)
+
+pub returns-clause-within : goal.returns-clause-within
+returns-clause-within g c =
+    on_ok c.told.result
+    (within_left c.list.new.store c.finish.new.store c.args.ask.now.vars c.finish.ensures.ends
+    (subst (IsWithin c.list.new.store) c.requires.asked.things c.in_ok-ending.ensures.over.covered.within))
