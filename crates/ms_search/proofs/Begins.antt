@@ -2,14 +2,14 @@
 use Rattle.std.proofs.Common.{ℕ, ◌≡◌, ◌<◌, ◌≤◌, ◌+◌, ◌-◌, ◌^◌, ◌⊎◌, inl, inr, zero, suc, List, [], ◌∷◌, ◌++◌, Option, Some, None, Bool, true, false, length, get_or, option_map, take, drop, append-nil, refl, sym, ◌∙◌, ap, subst, arith}
 use Rattle.std.specs.Prelude.{◌≢◌, All, Contains, is_some}
 use Rattle.std.specs.List.{filter_map}
-use Rattle.std.proofs.lemmas.Bool.{both_ways, cases_eq, cases_lt}
+use Rattle.std.proofs.lemmas.Bool.{both_ways, cases_eq, cases_lt, cond-true}
 use Rattle.std.proofs.lemmas.List.{get_or-drop, get_or-take, get_or_default, length-drop, length-take-le}
 use Rattle.std.proofs.lemmas.List.Elements.{All-contains, All-contains_itself, Contains-get_or}
 use Rattle.ms_lits.specs.declared.lit.Lit.{Lit}
 use Rattle.ms_lits.specs.declared.trail.Entry.{Entry}
 use Rattle.ms_lits.specs.declared.note.Note.{Note}
 use Rattle.ms_lits.specs.Literals.{Nogood}
-use Rattle.ms_nogood.specs.Store.{AreKept, Store, Stored, Trims, awake_in, holds_kept, nogood_at, slot_at}
+use Rattle.ms_nogood.specs.Store.{AreKept, Store, Stored, Trims, awake_in, ends, ends_by_kind, holds_kept, nogood_at, slot_at}
 use Rattle.ms_nogood.specs.declared.kind.Kind.{Kind}
 use Rattle.ms_nogood.specs.declared.kind.Kind.TheVariants.{Base, Kept, Temporary, Reason}
 use Rattle.ms_nogood.specs.Propagation.{IsStored, IsWithin}
@@ -41,6 +41,18 @@ contains_or (y ∷ xs) x = elim (cases_eq y x) [
 pub awake_slot : (o : Option Stored) (s : Stored) → awake_in o ≡ Some s → o ≡ Some s
 awake_slot None s is = is
 awake_slot (Some t) s is = ap Some (awake_same t s is)
+
+ends_kind : (kind : Option Kind) → (is_some kind ≡ true → (kind ≡ Some Base) ⊎ (kind ≡ Some Kept)) → ends_by_kind kind ≡ false
+ends_kind None lasts = refl
+ends_kind (Some Base) lasts = refl
+ends_kind (Some Kept) lasts = refl
+ends_kind (Some Temporary) lasts = elim (lasts refl) [ inl base ↦ cc | inr kept ↦ cc ]
+ends_kind (Some Reason) lasts = elim (lasts refl) [ inl base ↦ cc | inr kept ↦ cc ]
+
+-- what lasts doesn't end with a solve
+ends_not : (o : Option Stored) → ((s : Stored) → awake_in o ≡ Some s → (s.kind ≡ Some Base) ⊎ (s.kind ≡ Some Kept)) → ends o ≡ false
+ends_not None lasts = refl
+ends_not (Some s) lasts = ends_kind s.kind (λ some. lasts s (cond-true (is_some s.kind) (Some s) None some))
 
 kept_kind : (o : Option Stored) (nogood : Nogood) → holds_kept o ≡ true → option_map (λ (s : Stored). s.lits) o ≡ Some nogood → (s : Stored) × (awake_in o ≡ Some s) × (s.lits ≡ nogood)
 kept_kind None nogood kept is = cc
@@ -199,11 +211,14 @@ module _ (old new : Store) (order : AreKept old.slots old.kept) (b : Begins old 
               (filter_map-Contains (literals_at new) key s.lits new.kept (order_begun.every_one key holds) (ap (option_map (λ (t : Stored). t.lits)) slot))))
         ]
 
+    -- nothing ends with the solve yet
+    pub lasting_begun : (key : ℕ) → ends (slot_at new key) ≡ false
+    lasting_begun key = ends_not (slot_at new key) (λ s found. lasting key s (found_back key s found))
+
     pub covered_begun : AreCovered problem new []
     covered_begun = record {
       known = known_begun;
       standing = standing_begun;
-      base = base_stored;
       within = λ key s found. inside key s (found_back key s found);
       kept = kept_is ∙ sym (append-nil problem.kept);
       order = order_begun;
@@ -219,8 +234,8 @@ point_begun problem p room trail_is decisions_are lines_are spent_is answers_are
       (subst (λ (xs : List (List ℕ)). AreLogged problem [] 0 xs) (sym answers_are) (logged_begun problem some)));
 }
 
-pub goes_on_begun : (store : Store) → GoesOn store store
-goes_on_begun store = record { stays = λ key s is. is; added = λ key s is. inl is }
+pub goes_on_begun : (store : Store) → ((key : ℕ) → ends (slot_at store key) ≡ false) → GoesOn store store
+goes_on_begun store lasting = record { stays = λ key s is. is; added = λ key s is. inl is; lasting = lasting }
 
 -- nothing was seen of a trail that was cut to nothing
 pub seen_nothing : (seen left entries : List Entry) → entries ≡ [] → BeginWith (take 0 seen) left → BeginWith entries left

@@ -11,3 +11,4 @@ pub mod Lists
 pub mod Begins
 pub mod Ends
 pub mod Wires
+pub mod Forgotten

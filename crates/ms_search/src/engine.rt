@@ -1,7 +1,7 @@
 // What a search keeps from solve to solve, with the trail of a solve.
-ghost use Rattle.std.specs.Prelude.{ℕ, ◌≡◌, ◌≢◌, ◌<◌, ◌≤◌, ◌++◌, ◌∷◌, [], All, AllPairs, None, OnOk, take};
+ghost use Rattle.std.specs.Prelude.{ℕ, ◌≡◌, ◌≢◌, ◌<◌, ◌≤◌, ◌++◌, ◌∷◌, [], All, AllPairs, IfOk, None, OnOk, Some, take};
 ghost use Rattle.ms_lits.specs.Assignment.{IsAssignment, value_in};
-ghost use Rattle.ms_nogood.specs.Store.{Store};
+ghost use Rattle.ms_nogood.specs.Store.{Store, slot_at};
 ghost use Rattle.ms_nogood.specs.Theories.{BeginWith};
 ghost use Rattle.ms_search.specs.Points.{IsWired, TakesIn, cut_to, with_decision};
 ghost use Rattle.ms_search.specs.Problems.{MeansTheSame};
@@ -78,20 +78,21 @@ impl<P: Propagate + Drop> Engine<P> {
         Ok(())
     }
 
-    /// Takes a nogood in, by a jump back to the least level at which it is whole or unit.
+    /// Takes a nogood in under a new key, by a jump back to the least level at which it is whole or unit.
     pub(crate) fn take<T: Theory>(
         &mut self,
         lits: &[Lit],
         kind: Kind,
         store: &mut Nogoods,
         theory: &mut T,
-    ) -> Result<(), OutOfMemory>
+    ) -> Result<usize, OutOfMemory>
         requires assignment { IsAssignment self.old.trail }
         requires room { All (λ l. l.var < self.old.trail.room) lits.now }
         requires different { AllPairs (λ l m. l.var ≢ m.var) lits.now }
         requires wired { IsWired (P.attached self.old.propagation) store.old }
         requires in_step { P.InStep self.old.propagation store.old self.old.trail }
         ensures takes_in { OnOk result (TakesIn self.old.trail self.new.trail self.old.decisions.items self.new.decisions.items store.old store.new lits.now kind) }
+        ensures key { IfOk result (λ key. slot_at store.new key ≡ Some (record { lits = lits.now; kind = Some kind })) }
         ensures wired { OnOk result (IsWired (P.attached self.new.propagation) store.new) }
         ensures in_step { OnOk result (P.InStep self.new.propagation store.new self.new.trail) }
         ensures seen { OnOk result (BeginWith self.old.trail.entries (T.Seen theory.old) → BeginWith self.new.trail.entries (T.Seen theory.new)) }
@@ -102,6 +103,6 @@ impl<P: Propagate + Drop> Engine<P> {
         self.back_to(level, theory)?;
         self.propagation.attach(store, &self.trail, key)?;
         store.forget_fresh();
-        Ok(())
+        Ok(key)
     }
 }

@@ -35,7 +35,7 @@ impl<P: Propagate + Drop> Engine<P> {
         ensures wired { OnOk result (IsWired (P.attached self.new.propagation) store.new) }
         ensures in_step { OnOk result (P.InStep self.new.propagation store.new self.new.trail) }
         ensures trail { OnOk result (self.new.trail ≡ self.old.trail) }
-        ensures lines { OnOk result (log.new.lines ≡ log.old.lines) }
+        ensures lines { OnOk result (log.new.lines.items ≡ log.old.lines.items) }
     {
         while let Some(key) = log.own.pop() {
             if !self.is_needless(key, newest, own, store) {
@@ -56,7 +56,8 @@ impl<P: Propagate + Drop> Engine<P> {
         ensures drops { Drops store.old store.new key }
         ensures wired { IsWired (P.attached self.new.propagation) store.new }
         ensures in_step { P.InStep self.new.propagation store.new self.new.trail }
-        ensures same { self.new ≡ record self.old { propagation = self.new.propagation } }
+        ensures trail { self.new.trail ≡ self.old.trail }
+        ensures decisions { self.new.decisions.items ≡ self.old.decisions.items }
     {
         self.propagation.detach(key);
         store.drop_passing(key);

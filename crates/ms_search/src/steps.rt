@@ -225,10 +225,11 @@ impl<P: Propagate + Drop> Engine<P> {
         let decisions = Vec::from_slice(self.alloc, self.decisions.as_slice())?;
         let own = in_order(decisions);
         log.nogood(Kind::Temporary, own.as_slice())?;
-        self.take(own.as_slice(), Kind::Temporary, store, theory)?;
+        let key = self.take(own.as_slice(), Kind::Temporary, store, theory)?;
         if log.answers.len() as u64 == ask.count {
             return Ok(Some(Ending::StillOpen));
         }
+        self.forget_needless::<K>(key, own.as_slice(), store, log)?;
         Ok(None)
     }
 

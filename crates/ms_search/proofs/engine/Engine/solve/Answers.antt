@@ -19,7 +19,7 @@ use Rattle.ms_search.specs.Engines.{point_of}
 use Rattle.ms_search.specs.Points.{IsOver, Point}
 use Rattle.ms_search.specs.Posed.{Lists}
 use Rattle.ms_search.specs.Runs.{IsRun, Leaves}
-use Rattle.ms_search.proofs.Begins.{covered_begun, goes_on_begun, point_begun, seen_nothing}
+use Rattle.ms_search.proofs.Begins.{covered_begun, goes_on_begun, lasting_begun, point_begun, seen_nothing}
 use Rattle.ms_search.proofs.Ends.{leaves, run_lists, run_told, within_left}
 use Rattle.ms_search.proofs.Readies.{theory_still}
 use Rattle.ms_search.proofs.engine.Engine.solve.Goals as goal
@@ -47,7 +47,9 @@ list-requires-clause-ready g c =
       seen = seen_nothing (g.T.Theory.Seen c.args.theory.now) (g.T.Theory.Seen c.back_to.new.self) c.begin.new.self.trail.entries (ap (λ (t : Assignment). t.entries) c.in_ok-begin.ensures.trail) b.seen;
       theory = theory_still g.K.Target.problem (g.T.Theory.vars c.args.theory.now) (g.T.Theory.vars c.back_to.new.self) (g.T.Theory.leans_on c.args.theory.now) (g.T.Theory.leans_on c.back_to.new.self) (g.T.Theory.Gives c.args.theory.now) (g.T.Theory.Gives c.back_to.new.self) (g.T.Theory.Settled c.args.theory.now) (g.T.Theory.Settled c.back_to.new.self) c.requires.theory
           (record { vars = b.vars; leans = b.leans_on; gives = b.gives; settled = b.settled });
-      goes_on = goes_on_begun c.begin.new.store;
+      goes_on = goes_on_begun c.begin.new.store
+          (lasting_begun c.args.store.now c.begin.new.store c.in_ok-begin.ensures.order c.in_ok-begin.ensures.begins g.K.Target.problem (g.T.Theory.Gives c.args.theory.now) c.requires.posed c.requires.lasting
+          (subst (IsWithin c.args.store.now) (sym c.requires.asked.things) c.requires.store));
     }
 
 on_ok : {T E : Type 0} {P : Type 0} → (told : Result T E) → P → OnOk told P

@@ -195,3 +195,11 @@ wired_forgotten old new key attached wired w d gone others k = elim (cases_eq k 
   | inl same ↦ ap wired same ∙ gone ∙ sym (ap (λ (m : ℕ). is_some (slot_at new m)) same ∙ ap is_some d.dropped)
   | inr other ↦ others k other ∙ w k ∙ sym (ap is_some (d.others k other))
 ]
+
+-- what ends with a solve is over the variables that there are
+pub ending_within : (problem : Problem) (a : Assignment) (ds : List Lit) (store : Store) (lines : List Note) (spent : ℕ) (answers : List (List ℕ)) (key : ℕ) (s : Stored) → IsPoint problem (point_made a ds store lines spent answers) → slot_at store key ≡ Some s → ends (Some s) ≡ true → All (λ (l : Lit). l.var < a.room) s.lits
+ending_within problem a ds store lines spent answers key s p found ending k d lt =
+    let here : nogood_at store key ≡ Some s = ap awake_in found ∙ ending_awake (Some s) ending in
+    let low = p.covered.within key s here k d lt in
+    let room = p.trail.room in
+    omega (arith, low, room)
