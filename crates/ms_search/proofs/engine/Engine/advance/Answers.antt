@@ -7,8 +7,12 @@ use Rattle.ms_nogood.specs.Theories.{Judges}
 use Rattle.ms_lawful.specs.Problems.{Problem}
 use Rattle.ms_search.specs.Engines.{HasFalse, point_of}
 use Rattle.ms_search.proofs.Moves.{false_refuted, over_complete}
-use Rattle.ms_search.proofs.Rounds.{decided_to, given_still, level_free, ready_checked, ready_decided}
+use Rattle.ms_search.proofs.Rounds.{decided_to, given_still, level_free, ready_checked, ready_decided, theory_closed}
 use Rattle.ms_search.proofs.engine.Engine.advance.Goals as goal
+
+pub check-requires-clause-closed : goal.check-requires-clause-closed
+check-requires-clause-closed g c =
+    theory_closed g.K.Target.problem c.args.store.now c.args.log.now.lines.items c.args.self.now.trail.entries (g.T.Theory.vars c.args.theory.now) (g.T.Theory.leans_on c.args.theory.now) (g.T.Theory.Gives c.args.theory.now) c.requires.ready.theory c.requires.point.covered c.requires.settled
 
 pub take_given-requires-clause-given : goal.take_given-requires-clause-given
 take_given-requires-clause-given g c =
