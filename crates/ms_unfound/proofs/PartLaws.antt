@@ -1,15 +1,15 @@
 -- The loop nogoods of a part are those that its module brings, but for those of single atoms without a cycle, which are
 -- completion nogoods.
-use Rattle.std.proofs.Common.{◌≡◌, ◌≢◌, ◌∙◌, ◌⊎◌, ◌+◌, ◌<◌, ◌≤◌, ℕ, zero, suc, Bool, true, false, not, ◌&&◌, ◌||◌, nat_eq, nat_lt, cond, List, [], ◌∷◌, ◌++◌, Option, Some, None, map, length, get_or, refl, sym, ap, subst, inl, inr, arith}
-use Rattle.std.specs.Prelude.{◌↔◌, IfSome, IsTrue, slice_get, slice_index}
+use Rattle.std.proofs.Common.{◌≡◌, ◌≢◌, ◌∙◌, ◌⊎◌, ◌<◌, ◌≤◌, ℕ, zero, suc, Bool, true, false, not, ◌&&◌, ◌||◌, nat_eq, nat_lt, cond, List, [], ◌∷◌, Option, Some, None, map, length, get_or, refl, sym, ap, subst, inl, inr, arith}
+use Rattle.std.specs.Prelude.{◌↔◌, IsTrue, slice_get, slice_index}
 use Rattle.std.specs.List.{All, AllPairs, Any, Contains, filter}
-use Rattle.std.proofs.lemmas.Bool.{and_from, and_parts, cases_Bool, cases_eq, cases_lt, cond-true, eq-eqb, eqb-true, false_from_ne_true, false≢true, lt-ltb, not_from_false, not_from_true, or_cases, or_left, or_right, true_from_ne_false}
+use Rattle.std.proofs.lemmas.Bool.{and_from, and_parts, cases_lt, cond-true, eq-eqb, eqb-true, false_from_ne_true, false≢true, lt-ltb, not_from_false, or_cases, or_left, or_right}
 use Rattle.std.specs.List.{position_or_len}
 use Rattle.std.specs.Option.{option_map}
 use Rattle.std.proofs.lemmas.Bool.Decides.{Decides-eqb}
-use Rattle.std.proofs.lemmas.List.Elements.{All-contains, All-cons, All-head, All-tail, Contains-get_or}
+use Rattle.std.proofs.lemmas.List.Elements.{All-contains, All-head, All-tail, Contains-get_or}
 use Rattle.std.proofs.lemmas.List.Sums.{fails_before_first}
-use Rattle.std.proofs.lemmas.Option.{get_or_from_slice_get, none-some, same_Some, slice_get-get_or, slice_get_within}
+use Rattle.std.proofs.lemmas.Option.{none-some, same_Some, slice_get-get_or, slice_get_within}
 use Rattle.ms_base.proofs.Lists.{Contains-behind, Contains-cases, Contains-filter, Contains-filtered, Contains-first, Contains-map, passes-filtered}
 use Rattle.ms_lits.specs.declared.lit.Lit.{Lit}
 use Rattle.ms_lits.specs.Literals.{Nogood}
@@ -26,16 +26,15 @@ use Rattle.ms_things.specs.Signs.{IsFor, IsNogoodOf, Signed, minus, plus}
 use Rattle.ms_cone.specs.Cones.{IsCone, Numbered, number_of}
 use Rattle.ms_cone.proofs.Walks.{reaches_more, reaches_self, reaches_through}
 use Rattle.ms_complete.specs.Rules.{fails, holds}
-use Rattle.ms_complete.specs.Sets.{Match, Writes}
+use Rattle.ms_complete.specs.Sets.{Match}
 use Rattle.ms_complete.proofs.Lists.{all_from, any_from, at_some, member_map_cases, member_of, some_at, some_once}
 use Rattle.ms_complete.proofs.Writing.{nogood_from, writes_from}
 use Rattle.ms_unfound.specs.declared.members.Members.{Members}
 use Rattle.ms_unfound.specs.declared.part.Part.{Part}
 use Rattle.ms_unfound.specs.declared.part.Support.{Support}
-use Rattle.ms_unfound.specs.Parts.{AreInOne}
 use Rattle.ms_unfound.specs.Loops.{IsLoopOf, is_outer, outer_bodies}
-use Rattle.ms_unfound.specs.Members.{AreSelected, GoesRound, HasPassing, IsCyclic}
-use Rattle.ms_unfound.specs.Taking.{AreSupports, AreVars, IsInner, IsNewLoop, IsPartOf, IsSupportBy}
+use Rattle.ms_unfound.specs.Members.{AreSelected, GoesRound, IsCyclic}
+use Rattle.ms_unfound.specs.Taking.{AreSupports, IsNewLoop, IsPartOf, IsSupportBy}
 use Rattle.ms_unfound.proofs.LoopGrowth.{contains_or_not, head_of}
 use Rattle.ms_unfound.proofs.MemberLaws.{different}
 use Rattle.ms_unfound.proofs.Pressing.{was_false}
@@ -184,8 +183,7 @@ has_number cone a (k, within, at) =
           let fails = fails_before_first (nat_eq a) cone.members k a before in
           absurd (false≢true (sym fails ∙ (Decides-eqb a (get_or cone.members k a)).1 (sym at)))
       | inr after ↦ (let low : position_or_len (nat_eq a) cone.members ≤ k = after in omega arith)
-    ] in
-    (
+    ] in (
       get_or cone.numbers first 0,
       ap (option_map (λ i. get_or cone.numbers i 0)) (cond-true (nat_lt first (length cone.members)) (Some first) None (lt-ltb first (length cone.members) inside)),
     )

@@ -1,34 +1,33 @@
 -- What taking a module does to the loop nogoods.
-use Rattle.std.proofs.Common.{◌≡◌, ◌≢◌, ◌∙◌, ◌⊎◌, ◌+◌, ◌<◌, ◌≤◌, ℕ, zero, suc, Bool, true, false, nat_eq, List, [], ◌∷◌, ◌++◌, Option, Some, None, map, length, length-append, get_or, refl, sym, ap, subst, inl, inr, arith}
-use Rattle.std.specs.Prelude.{IsTrue, slice_get, slice_index}
-use Rattle.std.specs.List.{All, AllPairs, Any, Contains, filter}
+use Rattle.std.proofs.Common.{◌≡◌, ◌≢◌, ◌∙◌, ◌⊎◌, ◌<◌, ◌≤◌, ℕ, Bool, true, false, nat_eq, List, [], ◌∷◌, ◌++◌, Some, length, length-append, get_or, refl, sym, ap, subst, inl, inr, arith}
+use Rattle.std.specs.Prelude.{slice_get, slice_index}
+use Rattle.std.specs.List.{All, Any, Contains}
 use Rattle.std.proofs.lemmas.Bool.{false≢true}
-use Rattle.std.proofs.lemmas.List.Elements.{All-contains, All-push, All-weaker, Contains-get_or}
+use Rattle.std.proofs.lemmas.List.Elements.{All-contains, All-push, All-weaker}
 use Rattle.std.proofs.lemmas.Option.{same_Some, slice_get-get_or, slice_get_within}
 use Rattle.ms_base.proofs.Lists.{Contains-first}
 use Rattle.ms_lits.specs.declared.lit.Lit.{Lit}
 use Rattle.ms_lits.specs.Literals.{Nogood}
 use Rattle.ms_join.specs.declared.ground_module.GroundModule.{GroundModule}
 use Rattle.ms_join.specs.declared.ground_rule.GroundRule.{GroundRule}
-use Rattle.ms_join.specs.Composability.{IsComposable}
-use Rattle.ms_join.specs.Dependencies.{AreTogether, Depends, DependsInAggregate, NeedsInAggregate}
-use Rattle.ms_join.specs.Modules.{Join, added_rules}
+use Rattle.ms_join.specs.Dependencies.{AreTogether, DependsInAggregate, NeedsInAggregate}
+use Rattle.ms_join.specs.Modules.{Join, added_rules, no_join}
 use Rattle.ms_join.specs.Things.{Thing, Body, body_of}
 use Rattle.ms_join.specs.Things.Thing.{atom, body, tuple, aggregate}
 use Rattle.ms_things.specs.Completion.{IsCompletionNogood, false_bodies, has_head_in}
 use Rattle.ms_things.specs.Completion.Completion.{unsupported}
 use Rattle.ms_things.specs.Loops.{IsLoopNogood}
-use Rattle.ms_things.specs.Numbers.{AreThings}
 use Rattle.ms_things.specs.Signs.{IsNogoodOf, plus}
 use Rattle.ms_loops.proofs.Growing.{completion_grows}
 use Rattle.ms_cone.proofs.Walks.{depends_right}
-use Rattle.ms_complete.proofs.Lists.{all_from, any_cases, any_left, any_one, any_right, at_some, member_none, member_of, some_at}
+use Rattle.ms_complete.proofs.Lists.{all_from, any_cases, any_left, any_none, any_one, any_right, at_some, member_none, member_of}
 use Rattle.ms_unfound.specs.declared.members.Members.{Members}
 use Rattle.ms_unfound.specs.declared.part.Part.{Part}
 use Rattle.ms_unfound.specs.declared.part.Support.{Support}
 use Rattle.ms_unfound.specs.Parts.{IsPart, IsSupport, Known}
+use Rattle.ms_unfound.specs.Accepted.{accepts}
+use Rattle.ms_unfound.specs.Laws.{SettledIsFounded}
 use Rattle.ms_unfound.specs.Loops.{IsGiven, IsLoopOf}
-use Rattle.ms_unfound.specs.Members.{AreSelected, GoesRound, IsCyclic}
 use Rattle.ms_unfound.specs.Taking.{AreCyclicHeads, AreLoopsOf, CanTake, HasNoCycle, HasNoMember, IsNewLoop, IsPartOf, IsPartOfModule, IsSupportBy, Takes}
 use Rattle.ms_unfound.proofs.LoopGrowth.{divided, loops_of_new, loops_of_old, together_larger}
 use Rattle.ms_unfound.proofs.PartLaws.{member_or_single, new_from_part, only_singles}
@@ -196,3 +195,20 @@ takes_more old m ends part are is = record {
       (loops_more old m j joined things more can are part (subst (λ (ts : List Thing). IsPartOfModule ts m part) same is));
   nothing = λ none. absurd (cycle_there m is.members is.are is.some none);
 }
+
+-- ---- the join of no modules
+
+pub no_loops : AreLoopsOf no_join [] (record { vars = 0; parts = [] })
+no_loops = record {
+  vars = refl;
+  each = λ nogood given. absurd (any_none (λ part. IsLoopOf part nogood) given.of_part);
+  all = λ nogood l. absurd (let less = (l.among.outputs l.member l.has).within in omega (arith, less));
+}
+
+-- ---- settled trails
+
+pub settled_is_founded : SettledIsFounded
+settled_is_founded j things known entries truths loops total settled none nogood l contained = elim (loops.all nogood l) [
+  | inl given ↦ accepts known entries truths nogood total settled given contained
+  | inr completion ↦ none nogood completion contained
+]
