@@ -24,7 +24,8 @@ use Rattle.ms_things.specs.Completion.{false_bodies, has_head_in}
 use Rattle.ms_things.specs.Loops.{IsLoopNogood, supports_from_outside}
 use Rattle.ms_things.specs.Numbers.{AreThings}
 use Rattle.ms_things.specs.Signs.{IsFor, IsNogoodOf, Signed, minus, plus}
-use Rattle.ms_cone.proofs.Walks.{DependsBy, depends_cases, depends_left, depends_right, reaches_more, reaches_self, reaches_through, rule_of}
+use Rattle.ms_join.proofs.Walks.{reaches_more, reaches_self, reaches_through}
+use Rattle.ms_cone.proofs.Walks.{DependsBy, depends_cases, depends_left, depends_right, rule_of}
 use Rattle.ms_unfound.specs.Taking.{IsNewLoop}
 
 -- ---- numbers of old things

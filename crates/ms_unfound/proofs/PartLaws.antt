@@ -24,7 +24,7 @@ use Rattle.ms_things.specs.Completion.{false_bodies, has_head_in}
 use Rattle.ms_things.specs.Loops.{supports_from_outside}
 use Rattle.ms_things.specs.Signs.{IsFor, IsNogoodOf, Signed, minus, plus}
 use Rattle.ms_cone.specs.Cones.{IsCone, Numbered, number_of}
-use Rattle.ms_cone.proofs.Walks.{reaches_more, reaches_self, reaches_through}
+use Rattle.ms_join.proofs.Walks.{reaches_more, reaches_self, reaches_through}
 use Rattle.ms_complete.specs.Rules.{fails, holds}
 use Rattle.ms_complete.specs.Sets.{Match}
 use Rattle.ms_complete.proofs.Lists.{all_from, any_from, at_some, member_map_cases, member_of, some_at, some_once}
