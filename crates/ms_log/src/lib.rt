@@ -1,0 +1,11 @@
+// The lines of the log: notes as text, and back.
+#![tactic(auto)]
+
+mod item;
+mod kind;
+mod reading;
+mod writing;
+
+pub use ms_base::memory::OutOfMemory;
+pub use reading::read;
+pub use writing::write;
