@@ -5,3 +5,4 @@ pub mod Dispatch
 pub mod Colons
 pub mod Starts
 pub mod Notes
+pub mod Logs

@@ -38,6 +38,10 @@ words_text (Finish ending) = codes "e " ++ ending
 abbrev pub note_text : Note → List ℕ
 note_text note = words_text note ++ codes "\n"
 
+-- a log is the lines of its notes, one after the other
+abbrev pub notes_text : List Note → List ℕ
+notes_text notes = flat_map note_text notes
+
 -- A text that a line can hold: it isn't empty, and has no line end.
 pub record IsInLine (text : List ℕ) : Type 0 where
   pub some : text ≢ []

@@ -3,9 +3,11 @@
 
 mod item;
 mod kind;
+mod laws;
 mod reading;
 mod writing;
 
+pub use laws::{one_log, one_note};
 pub use ms_base::memory::OutOfMemory;
 pub use reading::read;
 pub use writing::write;
