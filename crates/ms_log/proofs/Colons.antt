@@ -1,11 +1,11 @@
 -- The last colon of a text.
-use Rattle.std.proofs.Common.{◌≡◌, ◌≢◌, ℕ, ◌+◌, ◌-◌, ◌<◌, ◌≤◌, zero, suc, inl, inr, take, drop, List, [], ◌∷◌, ◌++◌, length, All, get_or, refl, sym, ap, ◌∙◌, subst, arith, length-append, append_assoc}
+use Rattle.std.proofs.Common.{◌≡◌, ◌≢◌, ℕ, ◌+◌, ◌-◌, ◌<◌, ◌≤◌, zero, suc, inr, take, drop, List, [], ◌∷◌, ◌++◌, length, All, get_or, refl, sym, ap, ◌∙◌, subst, arith, length-append, append_assoc}
 use Rattle.std.proofs.Math.Seq.{get_or-append_seam}
 use Rattle.std.specs.List.{AllByRecursion}
 use Rattle.std.proofs.lemmas.List.Elements.{recursion_from_All, All-from_recursion}
 use Rattle.std.proofs.lemmas.List.{append_cancel_right, take_all, take_more}
 use Rattle.ms_log.specs.NoteText.{numbers_text, number_text, IsThing}
-use Rattle.ms_log.specs.Reading.{HasNoColon, IsDeclared, IsAggregate, declared_text}
+use Rattle.ms_log.specs.Reading.{HasNoColon, IsDeclared, declared_text}
 use Rattle.ms_log.proofs.Numerals.{avoids, thing_numeral}
 
 pub has_one : (front back : List ℕ) → HasNoColon (front ++ 58 ∷ back) → ⊥

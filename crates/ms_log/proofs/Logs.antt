@@ -1,13 +1,13 @@
 -- A log is cut in one way into the lines of notes.
-use Rattle.std.proofs.Common.{◌≡◌, ◌≢◌, ℕ, ◌+◌, ◌<◌, ◌==◌, ◌&&◌, Bool, true, false, not, List, [], ◌∷◌, ◌++◌, length, All, refl, sym, ap, ◌∙◌, subst, arith, inl, codes, append_assoc, length-append}
-use Rattle.std.specs.List.{AllByRecursion, list_all, flat_map}
+use Rattle.std.proofs.Common.{◌≡◌, ◌≢◌, ℕ, ◌==◌, ◌&&◌, Bool, true, false, not, List, [], ◌∷◌, ◌++◌, All, refl, sym, ap, ◌∙◌, arith, inl, codes, append_assoc}
+use Rattle.std.specs.List.{AllByRecursion, list_all}
 use Rattle.std.proofs.lemmas.Bool.Decides.{nat_tests}
 use Rattle.std.proofs.lemmas.List.Elements.{recursion_from_All}
 use Rattle.std.proofs.lemmas.List.Folds.{list_all-append}
 use Rattle.ms_lits.specs.declared.lit.Lit.{Lit}
 use Rattle.ms_lits.specs.declared.note.Note.{Note}
 use Rattle.ms_lits.specs.declared.note.Note.TheVariants.{Atom, Body, Tuple, Aggregate, Start, Theory, Kept, Temporary, Answer, Finish}
-use Rattle.ms_log.specs.NoteText.{number_text, literal_text, numbers_text, literals_text, items_text, words_text, note_text, notes_text, IsThing, IsLiteral, IsInLine, IsReadable}
+use Rattle.ms_log.specs.NoteText.{number_text, literal_text, numbers_text, literals_text, items_text, words_text, notes_text, IsThing, IsLiteral, IsInLine, IsReadable}
 use Rattle.ms_log.proofs.Numerals.{avoids, thing_numeral}
 use Rattle.ms_log.proofs.Notes.{one_words}
 

@@ -1,13 +1,11 @@
 -- No two notes have one line.
-use Rattle.std.proofs.Common.{◌≡◌, ◌≢◌, ℕ, Bool, List, [], ◌∷◌, ◌++◌, All, refl, sym, ap, ◌∙◌, subst}
-use Rattle.std.specs.List.{AllByRecursion}
+use Rattle.std.proofs.Common.{◌≡◌, ℕ, Bool, List, [], ◌∷◌, ◌++◌, All, refl, sym, ap, ◌∙◌}
 use Rattle.std.specs.Prelude.{Option, Some, None, Result, Ok, Err, IfOk}
 use Rattle.std.proofs.lemmas.List.{append_cancel_right}
 use Rattle.std.proofs.lemmas.List.Elements.{recursion_from_All}
 use Rattle.ms_lits.specs.declared.lit.Lit.{Lit}
 use Rattle.ms_lits.specs.declared.note.Note.{Note}
 use Rattle.ms_lits.specs.declared.note.Note.TheVariants.{Atom, Body, Tuple, Aggregate, Start, Theory, Kept, Temporary, Answer, Finish}
-use Rattle.ms_log.specs.declared.kind.Kind.{Kind}
 use Rattle.ms_log.specs.declared.kind.Kind.TheVariants as kinds
 use Rattle.ms_log.specs.NoteText.{number_text, literal_text, numbers_text, literals_text, words_text, note_text, IsThing, IsLiteral, IsReadable}
 use Rattle.ms_log.specs.Reading.{IsReadBack, IsDeclared, IsAggregate}

@@ -13,7 +13,8 @@ use std::alloc::Global;
 
 /// The note of a line, which ends with its line end: `None` exactly where it is the line of no readable note.
 ///
-/// It fails only for want of memory.
+/// A note is readable where its texts aren't empty and have no line end, and where that of an aggregate begins with
+/// the word `count` or `sum`. It fails only for want of memory.
 pub fn read(alloc: Global, line: &[u8]) -> Result<Option<Note>, OutOfMemory>
     // What is read is the note of this line.
     ensures found { IfOk result (λ found. IfSome found (λ note. IsReadable note × (line.now ≡ note_text note))) }

@@ -1,4 +1,4 @@
-use Rattle.std.proofs.Common.{◌≡◌, arith}
+use Rattle.std.proofs.Common.{arith}
 use Rattle.ms_log.proofs.Words.{behind, front_is, word_found}
 use Rattle.ms_log.proofs.item.next_word.Goals as goal
 

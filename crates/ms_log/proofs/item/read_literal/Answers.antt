@@ -1,4 +1,4 @@
-use Rattle.std.proofs.Common.{◌≡◌, rules, arith, subst, sym}
+use Rattle.std.proofs.Common.{arith, subst, sym}
 use Rattle.ms_log.specs.NoteText.{literal_text, IsLiteral}
 use Rattle.ms_log.specs.Reading.{IsReadBack}
 use Rattle.ms_log.proofs.Words.{behind, front_is}

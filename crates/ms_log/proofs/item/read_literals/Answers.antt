@@ -1,4 +1,4 @@
-use Rattle.std.proofs.Common.{◌≡◌, arith, subst, sym}
+use Rattle.std.proofs.Common.{arith, subst, sym}
 use Rattle.std.proofs.lemmas.Bool.Decides.{nat_tests}
 use Rattle.ms_log.specs.NoteText.{literal_text, IsLiteral}
 use Rattle.ms_log.proofs.Items.{AreRead, no_word, no_item, one_read}

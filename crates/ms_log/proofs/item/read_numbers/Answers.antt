@@ -1,4 +1,4 @@
-use Rattle.std.proofs.Common.{◌≡◌, arith, subst, sym}
+use Rattle.std.proofs.Common.{arith, subst, sym}
 use Rattle.std.proofs.lemmas.Bool.Decides.{nat_tests}
 use Rattle.ms_log.specs.NoteText.{number_text, IsThing}
 use Rattle.ms_log.proofs.Items.{AreRead, no_word, no_item, one_read}

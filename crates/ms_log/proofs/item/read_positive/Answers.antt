@@ -1,4 +1,4 @@
-use Rattle.std.proofs.Common.{◌≡◌, ◌<◌, true, arith, sym, ◌∙◌}
+use Rattle.std.proofs.Common.{arith, sym, ◌∙◌}
 use Rattle.ms_log.proofs.Numerals.{numeral_of, read_back}
 use Rattle.ms_log.proofs.item.read_positive.Goals as goal
 

@@ -1,4 +1,4 @@
-use Rattle.std.proofs.Common.{◌≡◌, arith}
+use Rattle.std.proofs.Common.{arith}
 use Rattle.ms_log.proofs.Colons.{before, end_is}
 use Rattle.ms_log.proofs.Notes.{only_note}
 use Rattle.ms_log.proofs.reading.read.Goals as goal

@@ -1,4 +1,4 @@
-use Rattle.std.proofs.Common.{◌≡◌, true, ℕ, List, [], ◌∷◌, ◌++◌, arith, sym, ◌∙◌, subst}
+use Rattle.std.proofs.Common.{◌≡◌, true, sym, ◌∙◌, subst}
 use Rattle.ms_log.specs.NoteText.{HasFunction}
 use Rattle.ms_log.proofs.Colons.{one_name}
 use Rattle.ms_log.proofs.reading.read_aggregate.Goals as goal

@@ -1,4 +1,4 @@
-use Rattle.std.proofs.Common.{◌≡◌, ℕ, List, [], ◌∷◌, ◌++◌, arith, sym, ◌∙◌, subst, rules}
+use Rattle.std.proofs.Common.{arith, rules}
 use Rattle.ms_log.proofs.Starts.{start_is, start_read}
 use Rattle.ms_log.proofs.reading.read_start.Goals as goal
 

@@ -1,4 +1,4 @@
-use Rattle.std.proofs.Common.{◌≡◌, ℕ, List, [], ◌∷◌, ◌++◌, All, arith, refl, sym, ◌∙◌, subst, rules}
+use Rattle.std.proofs.Common.{All, refl, ◌∙◌, rules}
 use Rattle.ms_lits.specs.declared.note.Note.TheVariants.{Tuple, Aggregate, Start}
 use Rattle.ms_log.specs.declared.kind.Kind.TheVariants as kinds
 use Rattle.ms_log.specs.NoteText.{IsLiteral}

@@ -1,4 +1,4 @@
-use Rattle.std.proofs.Common.{◌≡◌, length, arith}
+use Rattle.std.proofs.Common.{length, arith}
 use Rattle.ms_log.proofs.Colons.{no_colon}
 use Rattle.ms_log.proofs.reading.split_at_last_colon.Goals as goal
 
