@@ -1,5 +1,5 @@
 -- A nogood that another one makes needless may be dropped.
-use Rattle.std.proofs.Common.{ℕ, ◌≡◌, ◌<◌, ◌⊎◌, inl, inr, List, Option, Some, None, Bool, true, false, length, get_or, take, option_map, refl, sym, ◌∙◌, ap, subst, arith}
+use Rattle.std.proofs.Common.{ℕ, ◌≡◌, ◌<◌, inl, inr, List, Option, Some, None, Bool, true, false, length, get_or, option_map, refl, sym, ◌∙◌, ap, subst, arith}
 use Rattle.std.specs.Prelude.{◌≢◌, All, Contains, is_some}
 use Rattle.std.specs.List.{filter_map}
 use Rattle.std.proofs.lemmas.Bool.{both_ways, cases_eq, cond-true}
@@ -14,7 +14,6 @@ use Rattle.ms_nogood.specs.declared.kind.Kind.{Kind}
 use Rattle.ms_nogood.specs.declared.kind.Kind.TheVariants.{Base, Kept, Temporary, Reason}
 use Rattle.ms_nogood.specs.Propagation.{IsSettled, IsStored}
 use Rattle.ms_nogood.proofs.Passing.{order_same}
-use Rattle.ms_nogood.proofs.Propagation.{awake_same}
 use Rattle.ms_refutation.specs.Sets.{AreReasoned, ContainsOne}
 use Rattle.ms_analyze.proofs.Trails.{entry_there}
 use Rattle.ms_lawful.specs.Problems.{Problem}

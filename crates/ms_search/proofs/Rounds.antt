@@ -1,8 +1,8 @@
 -- A round of a search: it propagates, and then learns, answers, decides, or takes in what a theory gives.
-use Rattle.std.proofs.Common.{ℕ, ◌≡◌, ◌<◌, ◌≤◌, ◌+◌, ◌*◌, ◌-◌, ◌^◌, ◌⊎◌, inl, inr, List, [], ◌∷◌, ◌++◌, Option, Some, None, Bool, true, false, length, get_or, take, refl, sym, ◌∙◌, ap, subst, arith}
-use Rattle.std.specs.Prelude.{◌≢◌, All, AllPairs, Contains, IsTrue}
+use Rattle.std.proofs.Common.{ℕ, ◌≡◌, ◌<◌, ◌≤◌, ◌+◌, ◌*◌, ◌-◌, ◌^◌, ◌⊎◌, inl, inr, List, [], ◌∷◌, ◌++◌, Option, Some, None, Bool, true, false, length, get_or, refl, sym, ◌∙◌, ap, subst, arith}
+use Rattle.std.specs.Prelude.{◌≢◌, All, Contains, IsTrue}
 use Rattle.std.specs.List.Sorted.{IsPermutation}
-use Rattle.std.proofs.lemmas.List.{append-nil, length-append, take-append-le, take_all}
+use Rattle.std.proofs.lemmas.List.{append-nil, take-append-le}
 use Rattle.std.proofs.lemmas.List.Elements.{filter_map-append}
 use Rattle.ms_lits.specs.declared.lit.Lit.{Lit}
 use Rattle.ms_lits.specs.declared.trail.Entry.{Entry}
@@ -21,7 +21,7 @@ use Rattle.ms_nogood.proofs.Propagation.{propagates_longer, stored_among}
 use Rattle.ms_analyze.specs.Analysis.{HasLevel, HasTemporaryReason, IsAsserting, IsGreatestBelow, IsNotTemporary, IsTemporaryAt}
 use Rattle.ms_analyze.specs.Cuts.{no_entry}
 use Rattle.ms_lawful.specs.Problems.{HasNogood, IsAdmitted, Problem, true_atoms}
-use Rattle.ms_lawful.specs.Lines.{answers_in, first_stage, nogood_of, nogoods_in, of_completion, stage_after, stored}
+use Rattle.ms_lawful.specs.Lines.{answers_in, first_stage, nogood_of, nogoods_in, of_completion, stored}
 use Rattle.ms_lawful.proofs.Stages.{lines_after}
 use Rattle.ms_refutation.proofs.Found.{closed_more}
 use Rattle.ms_search.specs.Engines.{AllAssigned, IsReady, truth_in}

@@ -21,8 +21,6 @@ pub(crate) struct Engine<P: Drop> {
     pub(crate) choice: Choice,
     /// The literal that was decided at each level from 1 on.
     pub(crate) decisions: Vec<Lit>,
-    /// How many literals the last propagation left.
-    pub(crate) assigned: usize,
 }
 
 impl<P: Propagate + Drop> Engine<P> {

@@ -53,7 +53,6 @@ impl<P: Propagate + Drop> SearchBy<P> {
                 propagation: P::new(alloc),
                 choice: Choice::new(alloc),
                 decisions: Vec::new(alloc),
-                assigned: 0,
             },
         }
     }
@@ -153,7 +152,7 @@ impl<P: Propagate + Drop> Engine<P> {
         self.attach_fresh(store)?;
         store.forget_fresh();
         self.trail.grow(vars)?;
-        self.assigned = self.trail.len();
+        let _len = self.trail.len();
         self.choice.grow(vars)?;
         Ok(())
     }

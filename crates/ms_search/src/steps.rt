@@ -122,7 +122,7 @@ impl<P: Propagate + Drop> Engine<P> {
         ensures fewer { (var : ℕ) → var < self.new.trail.room → value_in self.new.trail.entries var ≡ None → length self.new.trail.entries < self.new.trail.room }
     {
         let scan = self.propagation.propagate(store, &mut self.trail);
-        self.assigned = self.trail.len();
+        let _len = self.trail.len();
         scan
     }
 

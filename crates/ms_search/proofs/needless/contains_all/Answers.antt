@@ -1,4 +1,4 @@
-use Rattle.std.proofs.Common.{ℕ, false, get_or, take_all, subst, List}
+use Rattle.std.proofs.Common.{false, get_or, take_all, subst}
 use Rattle.std.specs.Prelude.{Contains}
 use Rattle.std.proofs.lemmas.List.Elements.{All-more}
 use Rattle.ms_lits.specs.declared.lit.Lit.{Lit}
