@@ -91,9 +91,7 @@ impl Bench {
             assume: self.demanded(assume)?,
             impossible,
         };
-        let run = self
-            .search
-            .run(&mut self.store, theory, &ask, &self.atoms)?;
+        let run = self.search.run(&mut self.store, theory, &ask, &self.atoms)?;
         Ok((self, run))
     }
 
@@ -127,18 +125,21 @@ fn in_order(lits: &[Lit], vars: u32) -> bool
 }
 
 /// How many lines of each kind a run has told: those of a theory, kept ones, temporary ones and answers.
-pub(crate) fn lines(run: &Run) -> [u32; 4] {
-    let mut counts = [0, 0, 0, 0];
+pub(crate) fn lines(run: &Run) -> [u64; 4] {
+    let mut theory: u64 = 0;
+    let mut kept: u64 = 0;
+    let mut temporary: u64 = 0;
+    let mut answers: u64 = 0;
     for note in run.notes.as_slice() {
         match note {
-            Note::Theory(_) => counts[0] += 1,
-            Note::Kept(_) => counts[1] += 1,
-            Note::Temporary(_) => counts[2] += 1,
-            Note::Answer(_) => counts[3] += 1,
+            Note::Theory(_) => theory = theory.saturating_add(1),
+            Note::Kept(_) => kept = kept.saturating_add(1),
+            Note::Temporary(_) => temporary = temporary.saturating_add(1),
+            Note::Answer(_) => answers = answers.saturating_add(1),
             _ => (),
         }
     }
-    counts
+    [theory, kept, temporary, answers]
 }
 
 /// It forbids each of its variables to be true, and keeps the greatest level that it was shown.
@@ -185,10 +186,9 @@ impl Theory for AllFalse {
     fn check(&mut self, trail: &Trail) -> Result<Verdict, OutOfMemory> {
         self.greatest = self.greatest.max(trail.level());
         match self.first(trail) {
-            Some(var) => Ok(Verdict::Nogood(Seq::from_vec(vec![in self.alloc; Lit {
-                var,
-                truth: true,
-            }]?))),
+            Some(var) => Ok(Verdict::Nogood(Seq::from_vec(vec![in self.alloc;
+                Lit { var, truth: true, },
+            ]?))),
             None => Ok(Verdict::Quiet),
         }
     }
