@@ -1,1 +1,1 @@
-pub mod Forbids
+pub mod Benches

@@ -1,12 +1,16 @@
 // A search over a store made by hand.
-ghost use Rattle.ms_search_tests.specs.Forbids.{AreFalse, IsForbidden};
-ghost use Rattle.ms_search_tests.proofs.Forbids.{accepts_false};
+ghost use Rattle.std.specs.Prelude.{◌≡◌, ◌<◌, ◌≤◌, ◌⊎◌, ◌∷◌, [], All, IfNone, IfOk, IfSome, IsTrue, List, OnOk, true};
+ghost use Rattle.ms_lits.specs.declared.lit.Lit.{Lit};
+ghost use Rattle.ms_nogood.specs.Theories.{AreRising, HasOpen};
+ghost use Rattle.ms_lits.specs.Assignment.{IsWholeIn};
+ghost use Rattle.ms_search_tests.specs.Forbids.{AreFalse, IsForbidden, accepts_false};
 
 use ms_base::seq::Seq;
 use ms_lits::{Lit, Lits, Note, Numbers, Trail};
 use ms_nogood::{Kind, Nogoods, OutOfMemory, Theory, Verdict};
 use ms_search::{Ask, Run, Search};
 use std::alloc::Global;
+use std::marker::Model;
 
 /// A search over a store, all of whose variables are atoms.
 #[derive(Drop)]
@@ -18,8 +22,21 @@ pub(crate) struct Bench {
     store: Nogoods,
 }
 
+impl Model for Bench {
+    ghost use Rattle.std.specs.Prelude.{ℕ};
+    ghost use Rattle.ms_search_tests.specs.Benches.{IsBench};
+
+    ghost Value = { ℕ };
+
+    ghost view = { λ b. b.vars };
+
+    ghost invariant = { λ b. IsBench b.vars b.atoms b.search.propagation b.store };
+}
+
 impl Bench {
-    pub(crate) fn new(alloc: Global, vars: u32) -> Result<Bench, OutOfMemory> {
+    pub(crate) fn new(alloc: Global, vars: u32) -> Result<Bench, OutOfMemory>
+        ensures { IfOk result (λ bench. bench ≡ vars) }
+    {
         let mut atoms = Vec::new(alloc);
         for var in 0..vars {
             atoms.push(var)?;
@@ -34,11 +51,17 @@ impl Bench {
     }
 
     /// Adds a nogood of the program, or one that is kept. It does nothing where its literals aren't in order.
-    pub(crate) fn add(&mut self, lits: &[Lit], kept: bool) -> Result<(), OutOfMemory> {
+    pub(crate) fn add(&mut self, lits: &[Lit], kept: bool) -> Result<(), OutOfMemory>
+        ensures { self.new ≡ self.old }
+    {
         if !in_order(lits, self.vars) {
             return Ok(());
         }
-        self.store.add(lits, if kept { Kind::Kept } else { Kind::Base })?;
+        if kept {
+            self.store.add(lits, Kind::Kept)?;
+        } else {
+            self.store.add(lits, Kind::Base)?;
+        }
         Ok(())
     }
 
@@ -55,7 +78,12 @@ impl Bench {
         limit: u64,
         assume: &[Lit],
         impossible: bool,
-    ) -> Result<(Bench, Run), OutOfMemory> {
+    ) -> Result<(Bench, Run), OutOfMemory>
+        requires vars { T.vars theory.old ≤ self }
+        requires leans_on { (nogood : List Lit) → ¬ T.leans_on theory.old nogood }
+        ensures vars { OnOk result (T.vars theory.new ≡ T.vars theory.old) }
+        ensures bench { IfOk result (λ found. found.0 ≡ self) }
+    {
         let ask = Ask {
             vars: self.vars,
             count: count.max(1),
@@ -63,14 +91,14 @@ impl Bench {
             assume: self.demanded(assume)?,
             impossible,
         };
-        let run = self
-            .search
-            .run(&mut self.store, theory, &ask, &self.atoms)?;
+        let run = self.search.run(&mut self.store, theory, &ask, &self.atoms)?;
         Ok((self, run))
     }
 
     /// Those literals that are of its variables.
-    fn demanded(&self, assume: &[Lit]) -> Result<Lits, OutOfMemory> {
+    fn demanded(&self, assume: &[Lit]) -> Result<Lits, OutOfMemory>
+        ensures { IfOk result (λ lits. All (λ lit. lit.var < self.now) lits) }
+    {
         let mut lits = Vec::new(self.alloc);
         for lit in assume {
             if lit.var < self.vars {
@@ -82,7 +110,10 @@ impl Bench {
 }
 
 /// Whether the variables rise, and are below this number.
-fn in_order(lits: &[Lit], vars: u32) -> bool {
+fn in_order(lits: &[Lit], vars: u32) -> bool
+    ensures rising { IsTrue result → AreRising lits.now }
+    ensures within { IsTrue result → All (λ lit. lit.var < vars) lits.now }
+{
     let mut least = 0;
     for lit in lits {
         if lit.var < least || lit.var >= vars {
@@ -94,18 +125,21 @@ fn in_order(lits: &[Lit], vars: u32) -> bool {
 }
 
 /// How many lines of each kind a run has told: those of a theory, kept ones, temporary ones and answers.
-pub(crate) fn lines(run: &Run) -> [u32; 4] {
-    let mut counts = [0, 0, 0, 0];
+pub(crate) fn lines(run: &Run) -> [u64; 4] {
+    let mut theory: u64 = 0;
+    let mut kept: u64 = 0;
+    let mut temporary: u64 = 0;
+    let mut answers: u64 = 0;
     for note in run.notes.as_slice() {
         match note {
-            Note::Theory(_) => counts[0] += 1,
-            Note::Kept(_) => counts[1] += 1,
-            Note::Temporary(_) => counts[2] += 1,
-            Note::Answer(_) => counts[3] += 1,
+            Note::Theory(_) => theory = theory.saturating_add(1),
+            Note::Kept(_) => kept = kept.saturating_add(1),
+            Note::Temporary(_) => temporary = temporary.saturating_add(1),
+            Note::Answer(_) => answers = answers.saturating_add(1),
             _ => (),
         }
     }
-    counts
+    [theory, kept, temporary, answers]
 }
 
 /// It forbids each of its variables to be true, and keeps the greatest level that it was shown.
@@ -118,7 +152,12 @@ pub(crate) struct AllFalse {
 
 impl AllFalse {
     /// The first true variable or, where none is true, the first unassigned one.
-    fn first(&self, trail: &Trail) -> Option<u32> {
+    fn first(&self, trail: &Trail) -> Option<u32>
+        requires { self.now.vars ≤ trail.now.room }
+        ensures within { IfSome result (λ var. var < self.now.vars) }
+        ensures found { IfSome result (λ var. IsWholeIn trail.now.entries (record { var = var; truth = true } ∷ []) ⊎ HasOpen trail.now.entries (record { var = var; truth = true } ∷ [])) }
+        ensures none { IfNone result (AreFalse self.now.vars trail.now.entries) }
+    {
         for var in 0..self.vars {
             if trail.value(var) == Some(true) {
                 return Some(var);
@@ -147,10 +186,9 @@ impl Theory for AllFalse {
     fn check(&mut self, trail: &Trail) -> Result<Verdict, OutOfMemory> {
         self.greatest = self.greatest.max(trail.level());
         match self.first(trail) {
-            Some(var) => Ok(Verdict::Nogood(Seq::from_vec(vec![in self.alloc; Lit {
-                var,
-                truth: true,
-            }]?))),
+            Some(var) => Ok(Verdict::Nogood(Seq::from_vec(vec![in self.alloc;
+                Lit { var, truth: true, },
+            ]?))),
             None => Ok(Verdict::Quiet),
         }
     }

@@ -1,3 +1,5 @@
+ghost use Rattle.std.specs.Prelude.{◌≡◌, ◌<◌, ◌*◌, IfOk};
+
 use crate::bench::{AllFalse, Bench, lines};
 use crate::nogood::Silent;
 use ms_lits::{Ending, Lit};
@@ -13,21 +15,25 @@ fn isnt(var: u32) -> Lit {
     Lit { var, truth: false }
 }
 
-/// Each of so many pigeons has a hole, of one hole less, and no two have the same.
+/// The number of holes.
+const HOLES: u32 = 5;
+
+/// Each of so many pigeons has a hole, and no two have the same.
 fn pigeons(alloc: Global, count: u32) -> Result<Bench, OutOfMemory>
-    requires { count < 10 }
+    requires { count < 100 }
+    ensures { IfOk result (λ bench. bench ≡ count * 5) }
 {
-    let holes = count.saturating_sub(1);
-    let mut bench = Bench::new(alloc, count * holes)?;
+    let mut bench = Bench::new(alloc, count * HOLES)?;
     for pigeon in 0..count {
         let mut none = Vec::new(alloc);
-        for hole in 0..holes {
-            none.push(isnt(pigeon * holes + hole))?;
+        for hole in 0..HOLES {
+            none.push(isnt(pigeon * HOLES + hole))?;
         }
         bench.add(none.as_slice(), false)?;
         for other in 0..pigeon {
-            for hole in 0..holes {
-                bench.add(&[is(other * holes + hole), is(pigeon * holes + hole)], false)?;
+            for hole in 0..HOLES {
+                let both = [is(other * HOLES + hole), is(pigeon * HOLES + hole)];
+                bench.add(&both, false)?;
             }
         }
     }
@@ -38,12 +44,66 @@ fn pigeons(alloc: Global, count: u32) -> Result<Bench, OutOfMemory>
 fn small_stores(rt: HostRuntime) -> Result<(), Fail> {
     let alloc = rt.alloc();
     let rows = [
-        ([None, None], false, 9, 9, false, Ending::Complete, 4, "two free variables"),
-        ([None, None], false, 3, 9, false, Ending::StillOpen, 3, "three of them"),
-        ([Some(is(0)), None], false, 9, 9, false, Ending::Complete, 2, "one assumed"),
-        ([Some(is(0)), Some(isnt(0))], false, 9, 9, false, Ending::Complete, 0, "a variable and its opposite"),
-        ([Some(is(0)), None], true, 9, 9, false, Ending::Complete, 0, "an empty nogood"),
-        ([None, None], false, 9, 9, true, Ending::Complete, 0, "something impossible"),
+        (
+            [None, None],
+            false,
+            9,
+            9,
+            false,
+            Ending::Complete,
+            4,
+            "two free variables",
+        ),
+        (
+            [None, None],
+            false,
+            3,
+            9,
+            false,
+            Ending::StillOpen,
+            3,
+            "three of them",
+        ),
+        (
+            [Some(is(0)), None],
+            false,
+            9,
+            9,
+            false,
+            Ending::Complete,
+            2,
+            "one assumed",
+        ),
+        (
+            [Some(is(0)), Some(isnt(0))],
+            false,
+            9,
+            9,
+            false,
+            Ending::Complete,
+            0,
+            "a variable and its opposite",
+        ),
+        (
+            [Some(is(0)), None],
+            true,
+            9,
+            9,
+            false,
+            Ending::Complete,
+            0,
+            "an empty nogood",
+        ),
+        (
+            [None, None],
+            false,
+            9,
+            9,
+            true,
+            Ending::Complete,
+            0,
+            "something impossible",
+        ),
     ];
     for (assume, empty, count, limit, impossible, ending, answers, what) in &rows {
         let mut bench = Bench::new(alloc, 2)?;
@@ -55,7 +115,11 @@ fn small_stores(rt: HostRuntime) -> Result<(), Fail> {
             lits.push(*lit)?;
         }
         let (_, run) = bench.run(&mut Silent, *count, *limit, lits.as_slice(), *impossible)?;
-        assert_eq!(rt; (run.ending, run.answers.len()), (*ending, *answers), "{what}");
+        assert_eq!(rt;
+            (run.ending, run.answers.len()),
+            (*ending, *answers),
+            "{what}"
+        );
     }
     Ok(())
 }
@@ -75,11 +139,47 @@ fn kept_nogoods(rt: HostRuntime) -> Result<(), Fail> {
     let alloc = rt.alloc();
     let bench = pigeons(alloc, 6)?;
     let (bench, first) = bench.run(&mut Silent, 1, 1, &[], false)?;
-    assert_eq!(rt; (first.ending, lines(&first)), (Ending::Cut, [0, 1, 0, 0]), "a cut");
+    assert_eq!(rt;
+        (first.ending, lines(&first)),
+        (Ending::Cut, [0, 1, 0, 0]),
+        "a cut"
+    );
     let (bench, second) = bench.run(&mut Silent, 1, 100_000, &[], false)?;
     assert_eq!(rt; second.ending, Ending::Complete, "all of it");
     let (_, third) = bench.run(&mut Silent, 1, 0, &[], false)?;
-    assert_eq!(rt; (third.ending, lines(&third)), (Ending::Complete, [0, 0, 0, 0]), "by what was kept");
+    assert_eq!(rt;
+        (third.ending, lines(&third)),
+        (Ending::Complete, [0, 0, 0, 0]),
+        "by what was kept"
+    );
+    Ok(())
+}
+
+#[test]
+fn conflicts_after_answers(rt: HostRuntime) -> Result<(), Fail> {
+    let alloc = rt.alloc();
+    let bench = pigeons(alloc, 5)?;
+    let (_, cut) = bench.run(&mut Silent, 1_000, 3, &[], false)?;
+    let [_, kept, temporary, answers] = lines(&cut);
+    let learned = kept.saturating_add(temporary);
+    assert_eq!(rt;
+        (cut.ending, learned),
+        (Ending::Cut, answers.saturating_add(3)),
+        "a cut"
+    );
+    assert!(rt; answers > 0, "answers before a cut");
+    let bench = pigeons(alloc, 5)?;
+    let (_, all) = bench.run(&mut Silent, 1_000, 100_000, &[], false)?;
+    let [_, _, temporary, answers] = lines(&all);
+    assert_eq!(rt;
+        (all.ending, answers),
+        (Ending::Complete, 120),
+        "all permutations"
+    );
+    assert!(rt;
+        temporary > answers,
+        "one that rests on answers: {temporary}"
+    );
     Ok(())
 }
 
@@ -93,7 +193,10 @@ fn asked_early(rt: HostRuntime) -> Result<(), Fail> {
         greatest: 0,
     };
     let (_, run) = bench.run(&mut theory, 1_000_000, 1, &[], false)?;
-    assert_eq!(rt; (run.ending, lines(&run)), (Ending::Complete, [20, 0, 1, 1]));
+    assert_eq!(rt;
+        (run.ending, lines(&run)),
+        (Ending::Complete, [20, 0, 1, 1])
+    );
     assert_eq!(rt; theory.greatest, 0);
     Ok(())
 }
