@@ -1,4 +1,4 @@
-ghost use Rattle.std.specs.Prelude.{◌≡◌, ◌<◌, ◌*◌, IfOk};
+ghost use Rattle.std.specs.Prelude.{◌<◌};
 
 use crate::bench::{AllFalse, Bench, lines};
 use crate::nogood::Silent;
@@ -21,7 +21,6 @@ const HOLES: u32 = 5;
 /// Each of so many pigeons has a hole, and no two have the same.
 fn pigeons(alloc: Global, count: u32) -> Result<Bench, OutOfMemory>
     requires { count < 100 }
-    ensures { IfOk result (λ bench. bench ≡ count * 5) }
 {
     let mut bench = Bench::new(alloc, count * HOLES)?;
     for pigeon in 0..count {
