@@ -154,6 +154,37 @@ fn kept_nogoods(rt: HostRuntime) -> Result<(), Fail> {
     Ok(())
 }
 
+/// How many kept nogoods more than may be kept.
+const MORE: u32 = 1_000;
+
+#[test]
+fn oldest_kept_nogoods_go(rt: HostRuntime) -> Result<(), Fail> {
+    let mut bench = Bench::new(rt.alloc(), 2)?;
+    for _ in 0..200_000 + MORE {
+        bench.add(&[is(0), is(1)], true)?;
+    }
+    let (mut bench, first) = bench.run(&mut Silent, 9, 9, &[], false)?;
+    assert_eq!(rt; (first.ending, first.answers.len()), (Ending::Complete, 3));
+    assert_eq!(rt;
+        [bench.has(0), bench.has(999), bench.has(1_000)],
+        [false, false, true]
+    );
+    for _ in 0..MORE {
+        bench.add(&[is(0), is(1)], true)?;
+    }
+    assert_eq!(rt; [bench.has(0), bench.has(999), bench.has(1_000)], [true; 3]);
+    let (bench, second) = bench.run(&mut Silent, 9, 9, &[], false)?;
+    assert_eq!(rt;
+        (second.ending, second.answers.len()),
+        (Ending::Complete, 3)
+    );
+    assert_eq!(rt;
+        [bench.has(0), bench.has(1_000), bench.has(2_000)],
+        [true, false, true]
+    );
+    Ok(())
+}
+
 #[test]
 fn conflicts_after_answers(rt: HostRuntime) -> Result<(), Fail> {
     let alloc = rt.alloc();
