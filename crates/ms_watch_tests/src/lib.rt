@@ -1,0 +1,5 @@
+// Tests of propagation by watches.
+#![tactic(auto)]
+
+#[cfg(test)]
+mod equal;
