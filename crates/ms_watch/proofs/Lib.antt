@@ -1,1 +1,4 @@
 pub mod Linked
+pub mod Levels
+pub mod Fronts
+pub mod Choices

@@ -1,1 +1,4 @@
 pub mod Links
+pub mod Watches
+pub mod Walks
+pub mod Choices

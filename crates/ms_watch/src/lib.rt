@@ -1,6 +1,8 @@
 // Unit propagation by two watched literals for each nogood.
 #![tactic(auto)]
 
+mod choice;
 mod lists;
+mod state;
 
 pub use ms_lits::{Lit, OutOfMemory};
