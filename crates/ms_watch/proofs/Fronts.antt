@@ -62,7 +62,7 @@ up_to_none level (e ∷ es) high =
     cond-false (nat_le e.level level) (e ∷ up_to level es) (up_to level es) (lt-leb e.level level (All-head P e es high))
     ∙ up_to_none level es (All-tail P e es high)
 
-abbrev Rises : List Entry → Type 0
+abbrev pub Rises : List Entry → Type 0
 Rises es = (i k : ℕ) (d : Entry) → i ≤ k → k < length es → (get_or es i d).level ≤ (get_or es k d).level
 
 -- the entries up to a level stand in front

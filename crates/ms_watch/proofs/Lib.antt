@@ -4,3 +4,7 @@ pub mod Fronts
 pub mod Kept
 pub mod Moved
 pub mod Choices
+pub mod Pending
+pub mod Passing
+pub mod Fates
+pub mod Forced

@@ -28,7 +28,7 @@ links_same old new start (place ∷ more) longer same links =
       (links_same old new (get_or old place no_node).next more longer (All-tail (λ (p : ℕ). p < length old → get_or new p no_node ≡ get_or old p no_node) place more same) links.3))
 
 -- places in the nodes
-links_within : (nodes : List Node) (start : ℕ) (places : List ℕ) → LinksTo nodes start places → All (λ place. place < length nodes) places
+pub links_within : (nodes : List Node) (start : ℕ) (places : List ℕ) → LinksTo nodes start places → All (λ place. place < length nodes) places
 links_within nodes start [] links = All-nil (λ (p : ℕ). p < length nodes)
 links_within nodes start (place ∷ more) links = All-cons (λ (p : ℕ). p < length nodes) place more links.1 (links_within nodes (get_or nodes place no_node).next more links.3)
 

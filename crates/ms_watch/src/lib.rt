@@ -4,5 +4,7 @@
 mod choice;
 mod lists;
 mod state;
+mod watches;
 
 pub use ms_lits::{Lit, OutOfMemory};
+pub use watches::Watches;

@@ -1,0 +1,325 @@
+// Propagation by watches.
+ghost use Rattle.std.specs.Prelude.{ℕ, ◌≡◌, ◌≢◌, ◌<◌, ◌≤◌, [], Some, IfNone, IfSome, IsSome, IsTrue, MatchOption, option_map, slice_get, length, true, false};
+ghost use Rattle.ms_lits.specs.declared.lit.Lit.{Lit};
+ghost use Rattle.ms_lits.specs.Assignment.{HoldsIn, IsAssignment};
+ghost use Rattle.ms_nogood.specs.Store.{nogood_at, slot_at};
+ghost use Rattle.ms_nogood.specs.Propagation.{IsWithin, Propagates, IsWholeAt};
+ghost use Rattle.ms_watch.specs.declared.lists.Watch.{Watch};
+ghost use Rattle.ms_watch.specs.Links.{HasFront};
+ghost use Rattle.ms_watch.specs.Watches.{AreInStep, HaveLooked, is_attached, state_in, list_of, pending, free, plain, fresh};
+ghost use Rattle.ms_watch.specs.Walks.{IsWalking, IsOther, WatchesLit, AreFaced, IsPassing, IsFate, IsSettling, IsRevisiting, AreVisited, pending_in, watching};
+
+use crate::choice::{Choice, choose, is_false, is_true, replacement};
+use crate::lists::{Lists, Watch};
+use crate::state::{FREE, FRESH, Fate, LITERALS, PENDING, PLAIN, State, list_of};
+use ms_lits::{Lit, OutOfMemory, Trail};
+use ms_nogood::{Nogoods, Propagate, Scan};
+use std::alloc::Global;
+use std::marker::Model;
+
+/// Propagation that looks at a nogood where one of two literals of it that are watched becomes true.
+#[derive(Debug, Drop)]
+pub struct Watches {
+    lists: Lists,
+    /// For each key how it is attached.
+    keys: Vec<State>,
+    /// The number of literals of the trail that were looked at.
+    seen: usize,
+}
+
+impl Model for Watches {
+    ghost use Rattle.ms_watch.specs.Watches.{Watching};
+
+    ghost Value = { Watching };
+
+    ghost view = { λ w. record { links = w.lists; keys = w.keys.items; seen = w.seen } };
+}
+
+impl Watches {
+    fn state(&self, key: usize) -> State
+        ensures { result ≡ state_in self.now.keys key }
+    {
+        self.keys.get(key).copied().unwrap_or(State::Detached)
+    }
+
+    /// The other watched literal of the nogood of a key, where this one is watched.
+    fn other(&self, key: usize, lit: Lit) -> Option<Lit>
+        ensures some { IfSome result (λ other. IsOther (state_in self.now.keys key) lit other) }
+        ensures none { IfNone result (¬ WatchesLit (state_in self.now.keys key) lit) }
+    {
+        match self.state(key) {
+            State::Watched(first, second) if first == lit => Some(second),
+            State::Watched(first, second) if second == lit => Some(first),
+            _ => None,
+        }
+    }
+
+    /// Looks at the literals of the trail that weren't looked at.
+    fn follow(&mut self, store: &Nogoods, trail: &mut Trail) -> Option<usize>
+        requires within { IsWithin store.now trail.old.room }
+        requires in_step { AreInStep self.old store.now trail.old }
+        ensures propagates { Propagates store.now trail.old trail.new }
+        ensures attached { (key : ℕ) → is_attached (state_in self.new.keys key) ≡ is_attached (state_in self.old.keys key) }
+        ensures whole { IfSome result (λ key. IsWholeAt store.now trail.new.entries key) }
+        ensures in_step { AreInStep self.new store.now trail.new }
+        ensures all { IfNone result (self.new.seen ≡ length trail.new.entries) }
+    {
+        while self.seen < trail.len() {
+            let lit = trail.at(self.seen);
+            if let Some(key) = self.walk(lit, store, trail) {
+                return Some(key);
+            }
+            self.seen += 1;
+        }
+        None
+    }
+
+    /// Looks at the nogoods that watch a true literal.
+    fn walk(&mut self, lit: Lit, store: &Nogoods, trail: &mut Trail) -> Option<usize>
+        requires within { IsWithin store.now trail.old.room }
+        requires in_step { AreInStep self.old store.now trail.old }
+        requires holds { HoldsIn trail.old.entries lit }
+        ensures propagates { Propagates store.now trail.old trail.new }
+        ensures attached { (key : ℕ) → is_attached (state_in self.new.keys key) ≡ is_attached (state_in self.old.keys key) }
+        ensures seen { self.new.seen ≡ self.old.seen }
+        ensures whole { IfSome result (λ key. IsWholeAt store.now trail.new.entries key) }
+        ensures in_step { AreInStep self.new store.now trail.new }
+        ensures faced { IfNone result (AreFaced [] self.new.keys store.now trail.new.entries lit) }
+    {
+        let list = list_of(lit);
+        if list >= self.lists.len() {
+            return None;
+        }
+        self.lists.swap(list, PENDING);
+        while let Some(watch) = self.lists.front(PENDING) {
+            if self.pass(lit, watch, store, trail) {
+                self.put_back(list, store, trail);
+                return Some(watch.key);
+            }
+        }
+        None
+    }
+
+    /// Looks at the first pending watch of a true literal, and tells whether its nogood is whole.
+    fn pass(&mut self, lit: Lit, watch: Watch, store: &Nogoods, trail: &mut Trail) -> bool
+        requires within { IsWithin store.now trail.old.room }
+        requires passing { IsPassing lit self.old store.now trail.old }
+        requires front { HasFront self.old.links pending watch }
+        requires there { list_of lit < length self.old.links.heads }
+        ensures propagates { Propagates store.now trail.old trail.new }
+        ensures attached { (key : ℕ) → is_attached (state_in self.new.keys key) ≡ is_attached (state_in self.old.keys key) }
+        ensures seen { self.new.seen ≡ self.old.seen }
+        ensures lists { length self.new.links.heads ≡ length self.old.links.heads }
+        ensures passing { IsPassing lit self.new store.now trail.new }
+        ensures fewer { result ≡ false → pending_in self.new.links < pending_in self.old.links }
+        ensures whole { IsTrue result → IsWholeAt store.now trail.new.entries watch.key }
+    {
+        let key = watch.key;
+        match self.judge(lit, watch, store, trail) {
+            Fate::Stays(blocker) => self
+                .lists
+                .relink(PENDING, list_of(lit), Watch { key, blocker }),
+            Fate::Goes => self.lists.relink(PENDING, FREE, watch),
+            Fate::Moves(next, other) => {
+                self.keys[key] = State::Watched(next, other);
+                let watch = Watch {
+                    key,
+                    blocker: other,
+                };
+                self.lists.relink(PENDING, list_of(next), watch);
+            }
+            Fate::Forces(other) if store.awake(key) => {
+                trail.assign(other.opposite(), Some(key));
+                let watch = Watch {
+                    key,
+                    blocker: other,
+                };
+                self.lists.relink(PENDING, list_of(lit), watch);
+            }
+            Fate::Whole if store.awake(key) => return true,
+            Fate::Forces(_) | Fate::Whole => {
+                self.keys[key] = State::Loose;
+                self.lists.relink(PENDING, PLAIN, watch);
+            }
+        }
+        false
+    }
+
+    /// What becomes of a watch whose literal is true.
+    fn judge(&self, lit: Lit, watch: Watch, store: &Nogoods, trail: &Trail) -> Fate
+        requires passing { IsPassing lit self.now store.now trail.now }
+        requires front { HasFront self.now.links pending watch }
+        ensures { IsFate store.now trail.now.entries (state_in self.now.keys watch.key) watch lit result }
+    {
+        if is_false(watch.blocker, trail) {
+            return Fate::Stays(watch.blocker);
+        }
+        let Some(other) = self.other(watch.key, lit) else {
+            return Fate::Goes;
+        };
+        if is_false(other, trail) {
+            return Fate::Stays(other);
+        }
+        match replacement(store.get(watch.key), other, trail) {
+            Some(next) => Fate::Moves(next, other),
+            None if is_true(other, trail) => Fate::Whole,
+            None => Fate::Forces(other),
+        }
+    }
+
+    /// Looks at the fresh nogoods.
+    fn settle(&mut self, store: &Nogoods, trail: &mut Trail) -> Option<usize>
+        requires within { IsWithin store.now trail.old.room }
+        requires in_step { AreInStep self.old store.now trail.old }
+        ensures propagates { Propagates store.now trail.old trail.new }
+        ensures attached { (key : ℕ) → is_attached (state_in self.new.keys key) ≡ is_attached (state_in self.old.keys key) }
+        ensures seen { self.new.seen ≡ self.old.seen }
+        ensures whole { IfSome result (λ key. IsWholeAt store.now trail.new.entries key) }
+        ensures in_step { AreInStep self.new store.now trail.new }
+        ensures none { IfNone result ((watch : Watch) → ¬ HasFront self.new.links fresh watch) }
+    {
+        if self.lists.len() < LITERALS {
+            return None;
+        }
+        self.lists.swap(FRESH, PENDING);
+        while let Some(watch) = self.lists.front(PENDING) {
+            if self.settle_one(watch, store, trail) {
+                self.put_back(FRESH, store, trail);
+                return Some(watch.key);
+            }
+        }
+        None
+    }
+
+    /// Looks at the first pending fresh nogood, and tells whether it is whole.
+    fn settle_one(&mut self, watch: Watch, store: &Nogoods, trail: &mut Trail) -> bool
+        requires within { IsWithin store.now trail.old.room }
+        requires settling { IsSettling self.old store.now trail.old }
+        requires front { HasFront self.old.links pending watch }
+        requires there { fresh < length self.old.links.heads }
+        ensures propagates { Propagates store.now trail.old trail.new }
+        ensures attached { (key : ℕ) → is_attached (state_in self.new.keys key) ≡ is_attached (state_in self.old.keys key) }
+        ensures seen { self.new.seen ≡ self.old.seen }
+        ensures lists { length self.new.links.heads ≡ length self.old.links.heads }
+        ensures settling { IsSettling self.new store.now trail.new }
+        ensures fewer { result ≡ false → pending_in self.new.links < pending_in self.old.links }
+        ensures whole { IsTrue result → IsWholeAt store.now trail.new.entries watch.key }
+    {
+        let key = watch.key;
+        if self.state(key) != State::Loose {
+            self.lists.relink(PENDING, FREE, watch);
+            return false;
+        }
+        if !store.awake(key) {
+            self.lists.relink(PENDING, PLAIN, watch);
+            return false;
+        }
+        match choose(store.get(key), trail) {
+            Choice::Whole(_) => return true,
+            Choice::Two(first, second) => self.watch(key, first, second),
+            Choice::One(lit, top) => {
+                if !is_false(lit, trail) {
+                    trail.assign(lit.opposite(), Some(key));
+                }
+                match top {
+                    Some(top) => self.watch(key, lit, top),
+                    None => self.lists.relink(PENDING, PLAIN, watch),
+                }
+            }
+        }
+        false
+    }
+
+    /// Watches two literals of the first pending nogood.
+    fn watch(&mut self, key: usize, first: Lit, second: Lit)
+        requires key { key < length self.old.keys }
+        requires front { (watch : Watch) × HasFront self.old.links pending watch }
+        requires spare { (watch : Watch) × HasFront self.old.links free watch }
+        requires first { list_of first < length self.old.links.heads }
+        requires second { list_of second < length self.old.links.heads }
+        ensures { self.new ≡ watching self.old key first second }
+    {
+        self.keys[key] = State::Watched(first, second);
+        let watch = Watch {
+            key,
+            blocker: second,
+        };
+        self.lists.relink(PENDING, list_of(first), watch);
+        let watch = Watch {
+            key,
+            blocker: first,
+        };
+        self.lists.relink(FREE, list_of(second), watch);
+    }
+
+    /// Looks at the plain nogoods.
+    fn revisit(&mut self, store: &Nogoods, trail: &mut Trail) -> Option<usize>
+        requires within { IsWithin store.now trail.old.room }
+        requires in_step { AreInStep self.old store.now trail.old }
+        requires none { (watch : Watch) → ¬ HasFront self.old.links fresh watch }
+        ensures propagates { Propagates store.now trail.old trail.new }
+        ensures attached { (key : ℕ) → is_attached (state_in self.new.keys key) ≡ is_attached (state_in self.old.keys key) }
+        ensures seen { self.new.seen ≡ self.old.seen }
+        ensures whole { IfSome result (λ key. IsWholeAt store.now trail.new.entries key) }
+        ensures in_step { AreInStep self.new store.now trail.new }
+        ensures visited { IfNone result (length trail.new.entries ≡ length trail.old.entries → AreVisited self.new store.now trail.new) }
+    {
+        if self.lists.len() < LITERALS {
+            return None;
+        }
+        self.lists.swap(PLAIN, PENDING);
+        while let Some(watch) = self.lists.front(PENDING) {
+            if self.revisit_one(watch, store, trail) {
+                self.put_back(PLAIN, store, trail);
+                return Some(watch.key);
+            }
+        }
+        None
+    }
+
+    /// Looks at the first pending plain nogood, and tells whether it is whole.
+    fn revisit_one(&mut self, watch: Watch, store: &Nogoods, trail: &mut Trail) -> bool
+        requires within { IsWithin store.now trail.old.room }
+        requires walking { IsWalking plain self.old store.now trail.old }
+        requires front { HasFront self.old.links pending watch }
+        requires there { plain < length self.old.links.heads }
+        ensures propagates { Propagates store.now trail.old trail.new }
+        ensures attached { (key : ℕ) → is_attached (state_in self.new.keys key) ≡ is_attached (state_in self.old.keys key) }
+        ensures seen { self.new.seen ≡ self.old.seen }
+        ensures lists { length self.new.links.heads ≡ length self.old.links.heads }
+        ensures revisiting { (before : ℕ) → IsRevisiting before self.old store.now trail.old → IsRevisiting before self.new store.now trail.new }
+        ensures fewer { result ≡ false → pending_in self.new.links < pending_in self.old.links }
+        ensures whole { IsTrue result → IsWholeAt store.now trail.new.entries watch.key }
+    {
+        let key = watch.key;
+        if self.state(key) != State::Loose {
+            self.lists.relink(PENDING, FREE, watch);
+            return false;
+        }
+        if store.awake(key) {
+            match choose(store.get(key), trail) {
+                Choice::Whole(_) => return true,
+                Choice::One(lit, _) if !is_false(lit, trail) => {
+                    trail.assign(lit.opposite(), Some(key));
+                }
+                Choice::One(_, _) | Choice::Two(_, _) => (),
+            }
+        }
+        self.lists.relink(PENDING, PLAIN, watch);
+        false
+    }
+
+    /// Puts what is pending back into a list.
+    fn put_back(&mut self, list: usize, store: &Nogoods, trail: &Trail)
+        requires walking { IsWalking list self.old store.now trail.now }
+        requires there { list < length self.old.links.heads }
+        requires apart { list ≢ pending }
+        ensures in_step { AreInStep self.new store.now trail.now }
+        ensures keys { self.new.keys ≡ self.old.keys }
+        ensures seen { self.new.seen ≡ self.old.seen }
+    {
+        while let Some(watch) = self.lists.front(PENDING) {
+            self.lists.relink(PENDING, list, watch);
+        }
+    }
+}
