@@ -8,3 +8,4 @@ pub mod Pending
 pub mod Passing
 pub mod Fates
 pub mod Forced
+pub mod Walking

@@ -1,11 +1,11 @@
 // Propagation by watches.
-ghost use Rattle.std.specs.Prelude.{ℕ, ◌≡◌, ◌≢◌, ◌<◌, ◌≤◌, [], Some, IfNone, IfSome, IsSome, IsTrue, MatchOption, option_map, slice_get, length, true, false};
+ghost use Rattle.std.specs.Prelude.{ℕ, ◌≡◌, ◌≢◌, ◌<◌, ◌≤◌, ◌+◌, ◌^◌, [], Some, IfNone, IfSome, IsSome, IsTrue, MatchOption, option_map, slice_get, length, true, false};
 ghost use Rattle.ms_lits.specs.declared.lit.Lit.{Lit};
 ghost use Rattle.ms_lits.specs.Assignment.{HoldsIn, IsAssignment};
 ghost use Rattle.ms_nogood.specs.Store.{nogood_at, slot_at};
 ghost use Rattle.ms_nogood.specs.Propagation.{IsWithin, Propagates, IsWholeAt};
 ghost use Rattle.ms_watch.specs.declared.lists.Watch.{Watch};
-ghost use Rattle.ms_watch.specs.Links.{HasFront};
+ghost use Rattle.ms_watch.specs.Links.{HasFront, relinked, swapped};
 ghost use Rattle.ms_watch.specs.Watches.{AreInStep, HaveLooked, is_attached, state_in, list_of, pending, free, plain, fresh};
 ghost use Rattle.ms_watch.specs.Walks.{IsWalking, IsOther, WatchesLit, AreFaced, IsPassing, IsFate, IsSettling, IsRevisiting, AreVisited, pending_in, watching};
 
@@ -64,12 +64,12 @@ impl Watches {
         ensures in_step { AreInStep self.new store.now trail.new }
         ensures all { IfNone result (self.new.seen ≡ length trail.new.entries) }
     {
-        while self.seen < trail.len() {
-            let lit = trail.at(self.seen);
+        while self.seen() < trail.len() {
+            let lit = trail.at(self.seen());
             if let Some(key) = self.walk(lit, store, trail) {
                 return Some(key);
             }
-            self.seen += 1;
+            self.advance();
         }
         None
     }
@@ -87,11 +87,11 @@ impl Watches {
         ensures faced { IfNone result (AreFaced [] self.new.keys store.now trail.new.entries lit) }
     {
         let list = list_of(lit);
-        if list >= self.lists.len() {
+        if !self.has_list(list) {
             return None;
         }
-        self.lists.swap(list, PENDING);
-        while let Some(watch) = self.lists.front(PENDING) {
+        self.begin(list);
+        while let Some(watch) = self.pending() {
             if self.pass(lit, watch, store, trail) {
                 self.put_back(list, store, trail);
                 return Some(watch.key);
@@ -178,11 +178,11 @@ impl Watches {
         ensures in_step { AreInStep self.new store.now trail.new }
         ensures none { IfNone result ((watch : Watch) → ¬ HasFront self.new.links fresh watch) }
     {
-        if self.lists.len() < LITERALS {
+        if !self.has_list(FRESH) {
             return None;
         }
-        self.lists.swap(FRESH, PENDING);
-        while let Some(watch) = self.lists.front(PENDING) {
+        self.begin(FRESH);
+        while let Some(watch) = self.pending() {
             if self.settle_one(watch, store, trail) {
                 self.put_back(FRESH, store, trail);
                 return Some(watch.key);
@@ -264,11 +264,11 @@ impl Watches {
         ensures in_step { AreInStep self.new store.now trail.new }
         ensures visited { IfNone result (length trail.new.entries ≡ length trail.old.entries → AreVisited self.new store.now trail.new) }
     {
-        if self.lists.len() < LITERALS {
+        if !self.has_list(PLAIN) {
             return None;
         }
-        self.lists.swap(PLAIN, PENDING);
-        while let Some(watch) = self.lists.front(PENDING) {
+        self.begin(PLAIN);
+        while let Some(watch) = self.pending() {
             if self.revisit_one(watch, store, trail) {
                 self.put_back(PLAIN, store, trail);
                 return Some(watch.key);
@@ -309,17 +309,65 @@ impl Watches {
         false
     }
 
+    /// The number of literals that were looked at.
+    fn seen(&self) -> usize
+        ensures { result ≡ self.now.seen }
+    {
+        self.seen
+    }
+
+    /// One literal more was looked at.
+    fn advance(&mut self)
+        requires { self.old.seen < 2 ^ 32 }
+        ensures { self.new ≡ record self.old { seen = self.old.seen + 1 } }
+    {
+        self.seen += 1;
+    }
+
+    /// Whether there is a list of this number.
+    fn has_list(&self, list: usize) -> bool
+        ensures there { result ≡ true → list < length self.now.links.heads }
+        ensures absent { result ≡ false → length self.now.links.heads ≤ list }
+    {
+        list < self.lists.len()
+    }
+
+    /// The first pending watch.
+    fn pending(&self) -> Option<Watch>
+        ensures some { IfSome result (HasFront self.now.links pending) }
+        ensures none { IfNone result ((watch : Watch) → ¬ HasFront self.now.links pending watch) }
+    {
+        self.lists.front(PENDING)
+    }
+
+    /// Puts this watch in front of a list instead of the first pending one.
+    fn send(&mut self, list: usize, watch: Watch)
+        requires front { (first : Watch) × HasFront self.old.links pending first }
+        requires there { list < length self.old.links.heads }
+        ensures { self.new ≡ record self.old { links = relinked self.old.links pending list watch } }
+    {
+        self.lists.relink(PENDING, list, watch);
+    }
+
+    /// Exchanges a list with what is pending.
+    fn begin(&mut self, list: usize)
+        requires { list < length self.old.links.heads }
+        ensures { self.new ≡ record self.old { links = swapped self.old.links list pending } }
+    {
+        self.lists.swap(list, PENDING);
+    }
+
     /// Puts what is pending back into a list.
     fn put_back(&mut self, list: usize, store: &Nogoods, trail: &Trail)
         requires walking { IsWalking list self.old store.now trail.now }
         requires there { list < length self.old.links.heads }
-        requires apart { list ≢ pending }
+        requires apart { plain ≤ list }
         ensures in_step { AreInStep self.new store.now trail.now }
         ensures keys { self.new.keys ≡ self.old.keys }
         ensures seen { self.new.seen ≡ self.old.seen }
     {
-        while let Some(watch) = self.lists.front(PENDING) {
-            self.lists.relink(PENDING, list, watch);
+        while let Some(watch) = self.pending() {
+            self.send(list, watch);
         }
     }
 }
