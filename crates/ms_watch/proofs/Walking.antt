@@ -1,15 +1,19 @@
 -- How a walk over a list begins, goes on and ends.
 use Rattle.std.proofs.Common.{ℕ, ◌≡◌, ◌<◌, ◌≤◌, ◌+◌, ◌⊎◌, inl, inr, zero, suc, Bool, true, false, List, [], ◌∷◌, ◌++◌, Option, Some, None, cond, option_map, length, get_or, take, set, sym, ◌∙◌, ap, subst, arith, refl}
-use Rattle.std.specs.Prelude.{All, Contains, nat_le}
+use Rattle.std.specs.Prelude.{All, Contains, nat_le, slice_get}
+use Rattle.std.proofs.lemmas.Option.{slice_get-get_or}
+use Rattle.std.proofs.Math.ListN.{get_or-append}
 use Rattle.std.proofs.lemmas.Bool.{cases_Bool, cases_eq, cond-true, cond-false, leb-true}
 use Rattle.std.proofs.lemmas.List.{length-set, append-nil, take_more, get_or_default}
 use Rattle.std.proofs.lemmas.List.Elements.{All-weaker, All-contains}
 use Rattle.ms_lits.specs.declared.lit.Lit.{Lit}
 use Rattle.ms_lits.specs.declared.trail.Entry.{Entry}
 use Rattle.ms_lits.specs.Literals.{Nogood}
-use Rattle.ms_lits.specs.Assignment.{Assignment, HoldsIn, value_in, entry_of, up_to}
-use Rattle.ms_lits.proofs.Entries.{some_entry, entry_here, entry_behind}
+use Rattle.ms_lits.specs.Assignment.{Assignment, IsAssignment, HoldsIn, value_in, entry_of, up_to}
+use Rattle.ms_lits.proofs.Entries.{some_entry, entry_here, entry_behind, entry_first}
 use Rattle.ms_nogood.specs.Store.{Store}
+use Rattle.ms_nogood.specs.Propagation.{Propagates}
+use Rattle.ms_nogood.proofs.Propagation.{propagates_longer}
 use Rattle.ms_nogood.proofs.Looks.{lit_same}
 use Rattle.ms_watch.specs.declared.lists.Watch.{Watch}
 use Rattle.ms_watch.specs.declared.state.State.{State}
@@ -224,3 +228,29 @@ passing_begins lit w new store trail b keys holds = record {
 
 pub relinked_heads : (links new : Links) (from to : ℕ) (x : Watch) → new ≡ relinked links from to x → length new.heads ≡ length links.heads
 relinked_heads links new from to x is = ap (λ (l : Links). length l.heads) is ∙ length-set (set links.heads from _) to _ ∙ length-set links.heads from _
+
+lit_found : (found : Option Entry) (e : Entry) (lit : Lit) → found ≡ Some e → option_map (λ (x : Entry). x.lit) found ≡ Some lit → e.lit ≡ lit
+lit_found found e lit is read =
+    let same : Some e.lit ≡ Some lit = sym (ap (option_map (λ (x : Entry). x.lit)) is) ∙ read in
+    cc
+
+pub at_is : (es : List Entry) (i : ℕ) (lit : Lit) (d : Entry) → i < length es → option_map (λ (x : Entry). x.lit) (slice_get es i) ≡ Some lit → (get_or es i d).lit ≡ lit
+at_is es i lit d lt read = lit_found (slice_get es i) (get_or es i d) lit (slice_get-get_or es i d lt) read
+
+pub at_holds : (a : Assignment) (i : ℕ) (lit : Lit) → IsAssignment a → i < length a.entries → option_map (λ (x : Entry). x.lit) (slice_get a.entries i) ≡ Some lit → HoldsIn a.entries lit
+at_holds a i lit t lt read =
+    subst (HoldsIn a.entries) (at_is a.entries i lit some_entry lt read)
+    (ap (option_map (λ (e : Entry). e.lit.truth)) (entry_first a.entries (get_or a.entries i some_entry).lit.var i some_entry lt refl (λ k below same. t.once k i some_entry below lt same)))
+
+pub step_advanced : (w new : Watching) (store : Store) (old trail : Assignment) (lit : Lit) (i : ℕ) → Propagates store old trail → AreInStep w store trail → w.seen ≡ i → i < length old.entries → option_map (λ (x : Entry). x.lit) (slice_get old.entries i) ≡ Some lit → AreFaced [] w.keys store trail.entries lit → new ≡ record { links = w.links; keys = w.keys; seen = w.seen + 1 } → AreInStep new store trail
+step_advanced w new store old trail lit i p step seen lt read faced is =
+    let longer : length old.entries ≤ length trail.entries = propagates_longer store old trail p in
+    let below : w.seen < length old.entries = omega arith in
+    subst (λ (u : Watching). AreInStep u store trail) (sym is) (record {
+      lists = step.lists;
+      have = step.have;
+      kept = kept_seen step.lists (length w.links.heads) w.keys w.seen store trail lit step.kept (omega arith)
+          (λ d. ap (λ (es : List Entry). (get_or es w.seen d).lit) p.entries ∙ ap (λ (x : Entry). x.lit) (get_or-append old.entries p.added d w.seen below)
+            ∙ ap (λ n. (get_or old.entries n d).lit) seen ∙ at_is old.entries i lit d lt read) faced;
+      none = step.none;
+    })

@@ -19,7 +19,7 @@ loop-watch-init c =
     let links : new.links ≡ swapped w.links (list_of c.args.lit) pending = ap (λ (u : Watching). u.links) c.begin.ensures ∙ ap (λ n. swapped w.links n pending) list in
     let keys : new.keys ≡ w.keys = ap (λ (u : Watching). u.keys) c.begin.ensures in
     let seen : new.seen ≡ w.seen = ap (λ (u : Watching). u.seen) c.begin.ensures in
-    let there : list_of c.args.lit < length w.links.heads = subst (λ n. n < length w.links.heads) list ? in
+    let there : list_of c.args.lit < length w.links.heads = subst (λ n. n < length w.links.heads) list (c.has_list.ensures.there c.if-not-has_list.false) in
     record {
       propagates = propagates_none c.args.store.now c.args.trail.now c.args.trail.now refl;
       attached = λ key. refl;
