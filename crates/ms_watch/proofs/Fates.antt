@@ -13,7 +13,7 @@ use Rattle.ms_watch.specs.declared.lists.Watch.{Watch}
 use Rattle.ms_watch.specs.declared.state.State.{State}
 use Rattle.ms_watch.specs.declared.state.State.TheVariants.{Detached, Loose, Watched}
 use Rattle.ms_watch.specs.Links.{Links, HasFront, HaveLists, relinked}
-use Rattle.ms_watch.specs.Watches.{Watching, pending, free, plain, fresh, list_of, state_in, is_attached, lits_at, HasKey, HasWatch, HasFalse, IsQuiet, IsWatchedBy, AreWatched, IsGuarded, AreKept}
+use Rattle.ms_watch.specs.Watches.{Watching, pending, free, loose, list_of, state_in, is_attached, lits_at, HasKey, HasWatch, HasFalse, IsQuiet, IsWatchedBy, AreWatched, IsGuarded, AreKept}
 use Rattle.ms_watch.specs.Walks.{merged, pending_in, IsOther, WatchesLit, AreFaced, IsPassing, IsNext}
 use Rattle.ms_watch.proofs.Linked.{front_is}
 use Rattle.ms_watch.proofs.Fronts.{holds_more, false_whole}
@@ -78,7 +78,6 @@ module _ (lit : Lit) (w : Watching) (store : Store) (trail : Assignment) (watch 
         to_there = there;
         lit_there = there;
         not_pending = λ e. absurd (omega arith);
-        not_fresh = λ e. absurd (omega arith);
         small = λ four. elim which [
           | inl same ↦ subst (λ (l : Lit). l.var < trail.room) (sym same) blocker_small
           | inr is ↦ other_small x.blocker is
@@ -113,7 +112,6 @@ module _ (lit : Lit) (w : Watching) (store : Store) (trail : Assignment) (watch 
         to_there = omega arith;
         lit_there = there;
         not_pending = λ e. absurd (omega arith);
-        not_fresh = λ e. absurd (omega arith);
         small = λ four. absurd (omega arith);
         others = λ k apart. still k;
         same = ap is_attached (still watch.key);
@@ -122,23 +120,22 @@ module _ (lit : Lit) (w : Watching) (store : Store) (trail : Assignment) (watch 
         (guarded_apart p.lists lit free watch watch rest is (λ e. absurd (omega arith)) trail w.seen watch.key lits (state_in w.keys watch.key) none (p.kept.guarded watch.key lits found)))
       (λ rest is lits found watches. absurd (none (subst (λ (s : State). WatchesLit s lit) (still watch.key) watches)))
 
-  pub passing_loosens : (new : Watching) (other : Lit) → new.links ≡ relinked w.links pending plain watch → state_in new.keys watch.key ≡ Loose → ((k : ℕ) → (k ≡ watch.key → ⊥) → state_in new.keys k ≡ state_in w.keys k) → new.seen ≡ w.seen → from < length w.links.heads → IsOther (state_in w.keys watch.key) lit other → IsPassing lit new store trail × (pending_in new.links < pending_in w.links)
-  passing_loosens new other links loose others seen there is_other =
-      passing_goes lit w new store trail watch watch plain p front
+  pub passing_loosens : (new : Watching) (other : Lit) → new.links ≡ relinked w.links pending loose watch → state_in new.keys watch.key ≡ Loose → ((k : ℕ) → (k ≡ watch.key → ⊥) → state_in new.keys k ≡ state_in w.keys k) → new.seen ≡ w.seen → from < length w.links.heads → IsOther (state_in w.keys watch.key) lit other → IsPassing lit new store trail × (pending_in new.links < pending_in w.links)
+  passing_loosens new other links becomes others seen there is_other =
+      passing_goes lit w new store trail watch watch loose p front
       (record {
         links = links;
         seen = seen;
         to_there = omega arith;
         lit_there = there;
         not_pending = λ e. absurd (omega arith);
-        not_fresh = λ e. absurd (omega arith);
         small = λ four. absurd (omega arith);
         others = others;
-        same = ap is_attached loose ∙ sym (other_attached (state_in w.keys watch.key) lit other is_other);
+        same = ap is_attached becomes ∙ sym (other_attached (state_in w.keys watch.key) lit other is_other);
       })
-      (λ rest is lits found. subst (IsGuarded (merged (moved p.lists pending plain watch rest) from) trail w.seen watch.key lits) (sym loose)
-        (inl (has_key (merged (moved p.lists pending plain watch rest) from plain) watch.key watch (there_moved p.lists from plain watch watch rest is (λ e. absurd (omega arith))) refl)))
-      (λ rest is lits found watches. absurd (subst (λ (s : State). WatchesLit s lit) loose watches))
+      (λ rest is lits found. subst (IsGuarded (merged (moved p.lists pending loose watch rest) from) trail w.seen watch.key lits) (sym becomes)
+        (has_key (merged (moved p.lists pending loose watch rest) from loose) watch.key watch (there_moved p.lists from loose watch watch rest is (λ e. absurd (omega arith))) refl))
+      (λ rest is lits found watches. absurd (subst (λ (s : State). WatchesLit s lit) becomes watches))
 
   pub passing_moves : (new : Watching) (x : Watch) (next other : Lit) → new.links ≡ relinked w.links pending (list_of next) x → state_in new.keys watch.key ≡ Watched next other → ((k : ℕ) → (k ≡ watch.key → ⊥) → state_in new.keys k ≡ state_in w.keys k) → new.seen ≡ w.seen → from < length w.links.heads → x ≡ record { key = watch.key; blocker = other } → IsOther (state_in w.keys watch.key) lit other → IsNext store trail.entries watch.key other next → IsPassing lit new store trail × (pending_in new.links < pending_in w.links)
   passing_moves new x next other links watched others seen there made is_other n =
@@ -151,7 +148,6 @@ module _ (lit : Lit) (w : Watching) (store : Store) (trail : Assignment) (watch 
         to_there = All-contains (λ (l : Lit). list_of l < length w.links.heads) n.lits next (p.kept.covered watch.key n.lits attached n.found) n.contained;
         lit_there = there;
         not_pending = λ e. absurd (omega arith);
-        not_fresh = λ e. absurd (omega arith);
         small = λ four. subst (λ (y : Watch). y.blocker.var < trail.room) (sym made) (other_small other is_other);
         others = others;
         same = ap is_attached watched ∙ sym attached;

@@ -17,7 +17,7 @@ use Rattle.ms_refutation.proofs.Laws.{filter_twice}
 use Rattle.ms_watch.specs.declared.lists.Watch.{Watch}
 use Rattle.ms_watch.specs.declared.state.State.{State}
 use Rattle.ms_watch.specs.declared.state.State.TheVariants.{Detached, Loose, Watched}
-use Rattle.ms_watch.specs.Watches.{pending, free, plain, fresh, list_of, state_in, is_attached, lits_at, HasKey, HasWatch, HasFalse, IsQuiet, IsWatchedBy, AreWatched, IsGuarded, AreLeveled, IsCalmBelow, AreKept}
+use Rattle.ms_watch.specs.Watches.{loose, list_of, state_in, is_attached, lits_at, HasKey, HasWatch, HasFalse, IsQuiet, IsWatchedBy, AreWatched, IsGuarded, AreLeveled, AreKept}
 use Rattle.ms_watch.proofs.Fronts.{false_more, up_to_above, up_to_front, up_to_low, quiet_back}
 
 pub by_mapped : (lists new_lists : ℕ → List Watch) (entries new_entries : List Entry) (seen new_seen key : ℕ) (lits : Nogood) (lit : Lit) → (HasWatch (lists (list_of lit)) key lits → HasWatch (new_lists (list_of lit)) key lits) → (IsQuiet entries seen lits lit → IsQuiet new_entries new_seen lits lit) → IsWatchedBy lists entries seen key lits lit → IsWatchedBy new_lists new_entries new_seen key lits lit
@@ -37,10 +37,7 @@ watched_mapped lists new_lists trail new_trail seen new_seen key lits first seco
 
 pub guarded_mapped : (lists new_lists : ℕ → List Watch) (trail new_trail : Assignment) (seen new_seen key : ℕ) (lits : Nogood) (state : State) → trail.room ≤ new_trail.room → ((list : ℕ) → 2 ≤ list → HasKey (lists list) key → HasKey (new_lists list) key) → ((lit : Lit) → HasWatch (lists (list_of lit)) key lits → HasWatch (new_lists (list_of lit)) key lits) → ((lit : Lit) → IsQuiet trail.entries seen lits lit → IsQuiet new_trail.entries new_seen lits lit) → IsGuarded lists trail seen key lits state → IsGuarded new_lists new_trail new_seen key lits state
 guarded_mapped lists new_lists trail new_trail seen new_seen key lits Detached room has listed quiet g = tt
-guarded_mapped lists new_lists trail new_trail seen new_seen key lits Loose room has listed quiet g = elim g [
-  | inl h ↦ inl (has plain (omega arith) h)
-  | inr h ↦ inr (has fresh (omega arith) h)
-]
+guarded_mapped lists new_lists trail new_trail seen new_seen key lits Loose room has listed quiet g = has loose (omega arith) g
 guarded_mapped lists new_lists trail new_trail seen new_seen key lits (Watched first second) room has listed quiet g = watched_mapped lists new_lists trail new_trail seen new_seen key lits first second room listed quiet g
 
 -- the same lists
@@ -106,36 +103,24 @@ kept_assigned lists count keys seen store trail lit reason kept =
       stored = kept.stored;
       covered = kept.covered;
       blockers = kept.blockers;
-      calm = λ key lits has attached found. elim (kept.calm key lits has attached found) [
-        | inl few ↦ inl few
-        | inr calm ↦ inr (λ level below. subst (λ (es : List Entry). IsCalmIn es lits) (sym (up_to_above level trail.entries e below)) (calm level below))
-      ];
-      spare = kept.spare;
       guarded = λ key lits found. guarded_still lists trail (with_lit trail lit reason) seen seen key lits (state_in keys key) (omega arith)
           (λ l quiet level holds. false_more level trail.entries (e ∷ []) lits
             (quiet level (subst (λ (es : List Entry). HoldsIn (up_to level es) l) (take-append-le seen trail.entries (e ∷ []) kept.looked) holds)))
           (kept.guarded key lits found);
     }
 
-none_has : (watches : List Watch) (key : ℕ) → watches ≡ [] → HasKey watches key → ⊥
-none_has watches key none has =
-    let lt : has.contained.0 < length watches = has.contained.1 in
-    absurd (omega (arith, lt, ap length none))
-
 abbrev pub with_level : Assignment → ℕ → Assignment
 with_level trail level = record { entries = trail.entries; level = level; room = trail.room }
 
 -- a new level, where all was looked at
-pub kept_descended : (lists : ℕ → List Watch) (count : ℕ) (keys : List State) (seen : ℕ) (store : Store) (trail : Assignment) → AreKept lists count keys seen store trail → seen ≡ length trail.entries → lists fresh ≡ [] → AreKept lists count keys seen store (with_level trail (trail.level + 1))
-kept_descended lists count keys seen store trail kept all none = record {
+pub kept_descended : (lists : ℕ → List Watch) (count : ℕ) (keys : List State) (seen : ℕ) (store : Store) (trail : Assignment) → AreKept lists count keys seen store trail → seen ≡ length trail.entries → AreKept lists count keys seen store (with_level trail (trail.level + 1))
+kept_descended lists count keys seen store trail kept all = record {
   leveled = record { rising = kept.leveled.rising; present = λ i d lt. omega (arith, kept.leveled.present i d lt) };
   looked = kept.looked;
   late = λ i d le lt. absurd (omega arith);
   stored = kept.stored;
   covered = kept.covered;
   blockers = kept.blockers;
-  calm = λ key lits has attached found. absurd (none_has (lists fresh) key none has);
-  spare = kept.spare;
   guarded = λ key lits found. guarded_still lists trail (with_level trail (trail.level + 1)) seen seen key lits (state_in keys key) (omega arith) (λ l quiet. quiet) (kept.guarded key lits found);
 }
 
@@ -148,8 +133,6 @@ kept_grown lists count keys seen store trail room kept more = record {
   stored = kept.stored;
   covered = kept.covered;
   blockers = λ list le. All-weaker (λ (w : Watch). w.blocker.var < trail.room) (λ (w : Watch). w.blocker.var < room) (λ w lt. omega arith) (lists list) (kept.blockers list le);
-  calm = kept.calm;
-  spare = kept.spare;
   guarded = λ key lits found. guarded_still lists trail (record { entries = trail.entries; level = trail.level; room = room }) seen seen key lits (state_in keys key) more (λ l quiet. quiet) (kept.guarded key lits found);
 }
 
@@ -168,8 +151,6 @@ kept_stored lists count keys seen old new trail kept same =
       stored = λ key attached. subst IsSome (sym (same key attached)) (kept.stored key attached);
       covered = λ key lits attached found. kept.covered key lits attached (sym (same key attached) ∙ found);
       blockers = kept.blockers;
-      calm = λ key lits has attached found. kept.calm key lits has attached (sym (same key attached) ∙ found);
-      spare = kept.spare;
       guarded = λ key lits found. guard (state_in keys key) key lits (same key) (kept.guarded key) found;
     }
 
@@ -195,11 +176,6 @@ kept_back lists count keys seen store trail level len cut kept low is less withi
       stored = kept.stored;
       covered = kept.covered;
       blockers = kept.blockers;
-      calm = λ key lits has attached found. elim (kept.calm key lits has attached found) [
-        | inl few ↦ inl few
-        | inr calm ↦ inr (λ lower below. subst (λ (xs : List Entry). IsCalmIn xs lits) (sym (filter_twice lower level es (omega arith))) (calm lower (omega arith)))
-      ];
-      spare = kept.spare;
       guarded = λ key lits found. guarded_still lists trail new seen cut key lits (state_in keys key) (omega arith) (λ l quiet. quiet_back level seen len cut es lits l kept.leveled.rising is less within quiet) (kept.guarded key lits found);
     }
 
@@ -214,8 +190,6 @@ kept_cleared lists count keys seen store trail kept =
       stored = kept.stored;
       covered = kept.covered;
       blockers = kept.blockers;
-      calm = λ key lits has attached found. inr (λ lower below. absurd (omega arith));
-      spare = kept.spare;
       guarded = λ key lits found. guarded_still lists trail new seen 0 key lits (state_in keys key) (omega arith) (λ l quiet level holds. (let h : None ≡ Some l.truth = holds in cc)) (kept.guarded key lits found);
     }
 
@@ -230,8 +204,6 @@ kept_none count keys store trail none empty =
       stored = λ key attached. absurd (both_ways (is_attached (state_in keys key)) (ap is_attached (none key)) attached);
       covered = λ key lits attached found. absurd (both_ways (is_attached (state_in keys key)) (ap is_attached (none key)) attached);
       blockers = λ list le k d lt. absurd (omega arith);
-      calm = λ key lits has attached found. absurd (both_ways (is_attached (state_in keys key)) (ap is_attached (none key)) attached);
-      spare = omega arith;
       guarded = λ key lits found. subst (IsGuarded (λ _. []) trail 0 key lits) (sym (none key)) tt;
     }
 
@@ -249,8 +221,6 @@ kept_detached lists count keys new seen store trail key kept gone others =
       stored = λ k attached. kept.stored k (was k attached);
       covered = λ k lits attached found. kept.covered k lits (was k attached) found;
       blockers = kept.blockers;
-      calm = λ k lits has attached found. kept.calm k lits has (was k attached) found;
-      spare = kept.spare;
       guarded = λ k lits found. elim (cases_eq k key) [
         | inl same ↦ subst (IsGuarded lists trail seen k lits) (sym (ap (state_in new) same ∙ gone)) tt
         | inr other ↦ subst (IsGuarded lists trail seen k lits) (sym (others k other)) (kept.guarded k lits found)

@@ -13,7 +13,7 @@ use Rattle.ms_watch.specs.declared.lists.Watch.{Watch}
 use Rattle.ms_watch.specs.declared.state.State.{State}
 use Rattle.ms_watch.specs.declared.state.State.TheVariants.{Detached, Loose, Watched}
 use Rattle.ms_watch.specs.Links.{put}
-use Rattle.ms_watch.specs.Watches.{pending, free, plain, fresh, list_of, state_in, is_attached, lits_at, HasKey, HasWatch, IsGuarded, AreKept}
+use Rattle.ms_watch.specs.Watches.{pending, list_of, state_in, is_attached, lits_at, HasKey, HasWatch, IsGuarded, AreKept}
 use Rattle.ms_watch.specs.Walks.{merged}
 use Rattle.ms_watch.proofs.Linked.{put_here, put_other}
 use Rattle.ms_watch.proofs.Kept.{guarded_mapped}
@@ -32,8 +32,8 @@ pub has_key : (watches : List Watch) (key : ℕ) (w : Watch) → Contains watche
 has_key watches key w contained same = record { watch = w; contained = contained; same = same }
 
 -- the watches of one key alone change
-pub kept_changed : (lists new : ℕ → List Watch) (count : ℕ) (keys new_keys : List State) (seen : ℕ) (store : Store) (trail : Assignment) (key : ℕ) → AreKept lists count keys seen store trail → ((other : ℕ) → (other ≡ key → ⊥) → state_in new_keys other ≡ state_in keys other) → is_attached (state_in new_keys key) ≡ is_attached (state_in keys key) → ((list : ℕ) (w : Watch) → 2 ≤ list → (w.key ≡ key → ⊥) → Contains (lists list) w → Contains (new list) w) → ((list : ℕ) (w : Watch) → 3 ≤ list → Contains (new list) w → Contains (lists list) w ⊎ ((4 ≤ list) × (w.blocker.var < trail.room))) → length (new fresh) ≤ length (new free) → ((lits : Nogood) → lits_at store key ≡ Some lits → IsGuarded new trail seen key lits (state_in new_keys key)) → AreKept new count new_keys seen store trail
-kept_changed lists new count keys new_keys seen store trail key kept others same keep only spare guard =
+pub kept_changed : (lists new : ℕ → List Watch) (count : ℕ) (keys new_keys : List State) (seen : ℕ) (store : Store) (trail : Assignment) (key : ℕ) → AreKept lists count keys seen store trail → ((other : ℕ) → (other ≡ key → ⊥) → state_in new_keys other ≡ state_in keys other) → is_attached (state_in new_keys key) ≡ is_attached (state_in keys key) → ((list : ℕ) (w : Watch) → 2 ≤ list → (w.key ≡ key → ⊥) → Contains (lists list) w → Contains (new list) w) → ((list : ℕ) (w : Watch) → 3 ≤ list → Contains (new list) w → Contains (lists list) w ⊎ (w.blocker.var < trail.room)) → ((lits : Nogood) → lits_at store key ≡ Some lits → IsGuarded new trail seen key lits (state_in new_keys key)) → AreKept new count new_keys seen store trail
+kept_changed lists new count keys new_keys seen store trail key kept others same keep only guard =
     let was : (k : ℕ) → is_attached (state_in new_keys k) ≡ is_attached (state_in keys k) = λ k. elim (cases_eq k key) [
       | inl at ↦ ap (λ (n : ℕ). is_attached (state_in new_keys n)) at ∙ same ∙ ap (λ (n : ℕ). is_attached (state_in keys n)) (sym at)
       | inr other ↦ ap is_attached (others k other)
@@ -44,15 +44,10 @@ kept_changed lists new count keys new_keys seen store trail key kept others same
       late = kept.late;
       stored = λ k attached. kept.stored k (sym (was k) ∙ attached);
       covered = λ k lits attached found. kept.covered k lits (sym (was k) ∙ attached) found;
-      blockers = λ list le k d lt. elim (only list (get_or (new list) k d) (omega arith) (Contains-get_or (new list) k d lt)) [
+      blockers = λ list le k d lt. elim (only list (get_or (new list) k d) le (Contains-get_or (new list) k d lt)) [
         | inl old ↦ All-contains (λ (w : Watch). w.blocker.var < trail.room) (lists list) (get_or (new list) k d) (kept.blockers list le) old
-        | inr h ↦ h.1
+        | inr h ↦ h
       ];
-      calm = λ k lits has attached found. elim (only fresh has.watch (omega arith) has.contained) [
-        | inl old ↦ kept.calm k lits (has_key (lists fresh) k has.watch old has.same) (sym (was k) ∙ attached) found
-        | inr h ↦ (let le : 4 ≤ 3 = h.0 in absurd (omega arith))
-      ];
-      spare = spare;
       guarded = λ k lits found. elim (cases_eq k key) [
         | inl at ↦ subst (λ (n : ℕ). IsGuarded new trail seen n lits (state_in new_keys n)) (sym at) (guard lits (ap (lits_at store) (sym at) ∙ found))
         | inr other ↦ subst (IsGuarded new trail seen k lits) (sym (others k other))
@@ -148,43 +143,11 @@ module _ (lists : ℕ → List Watch) (from to : ℕ) (first x : Watch) (rest : 
   pub there_moved : Contains (merged (moved lists pending to x rest) from to) x
   there_moved = merged_in (moved lists pending to x rest) from to x (moved_there lists pending to x rest)
 
-  free_moved : (from ≡ free → ⊥) → length (merged lists from free) ≤ length (merged (moved lists pending to x rest) from free)
-  free_moved apart =
-      let before : length (merged lists from free) ≡ length (lists free) = ap length (merged_else lists from free (λ e. apart (sym e))) in
-      let after : length (merged (moved lists pending to x rest) from free) ≡ length (moved lists pending to x rest free) = ap length (merged_else (moved lists pending to x rest) from free (λ e. apart (sym e))) in
-      elim (cases_eq free to) [
-        | inl at ↦ omega (arith, before, after, ap length (moved_to lists pending to x rest free at))
-        | inr other ↦ omega (arith, before, after, ap length (moved_else lists pending to x rest free other (λ e. absurd (omega arith))))
-      ]
-
-  fresh_moved : (to ≡ fresh → from ≡ fresh) → length (merged (moved lists pending to x rest) from fresh) ≤ length (merged lists from fresh)
-  fresh_moved only = elim (cases_eq fresh from) [
-    | inl at ↦ (
-        let before : length (merged lists from fresh) ≡ 1 + length rest + length (lists fresh) = omega (arith, ap length (merged_at lists from fresh at), length-append (lists pending) (lists fresh), ap length is) in
-        let after : length (merged (moved lists pending to x rest) from fresh) ≡ length rest + length (moved lists pending to x rest fresh) = omega (arith, ap length (merged_at (moved lists pending to x rest) from fresh at), length-append (moved lists pending to x rest pending) (moved lists pending to x rest fresh), ap length pending_moved) in
-        elim (cases_eq fresh to) [
-          | inl here ↦ omega (arith, before, after, ap length (moved_to lists pending to x rest fresh here))
-          | inr other ↦ omega (arith, before, after, ap length (moved_else lists pending to x rest fresh other (λ e. absurd (omega arith))))
-        ])
-    | inr apart ↦ (
-        let before : length (merged lists from fresh) ≡ length (lists fresh) = ap length (merged_else lists from fresh apart) in
-        let after : length (merged (moved lists pending to x rest) from fresh) ≡ length (moved lists pending to x rest fresh) = ap length (merged_else (moved lists pending to x rest) from fresh apart) in
-        omega (arith, before, after, ap length (moved_else lists pending to x rest fresh (λ e. apart (sym (only (sym e)))) (λ e. absurd (omega arith)))))
-  ]
-
-  pub kept_moved : (count : ℕ) (keys new_keys : List State) (seen : ℕ) (store : Store) (trail : Assignment) → AreKept (merged lists from) count keys seen store trail → 2 ≤ from → (to ≡ fresh → (from ≡ fresh) × (x ≡ first)) → (4 ≤ to → x.blocker.var < trail.room) → ((other : ℕ) → (other ≡ first.key → ⊥) → state_in new_keys other ≡ state_in keys other) → is_attached (state_in new_keys first.key) ≡ is_attached (state_in keys first.key) → ((lits : Nogood) → lits_at store first.key ≡ Some lits → IsGuarded (merged (moved lists pending to x rest) from) trail seen first.key lits (state_in new_keys first.key)) → AreKept (merged (moved lists pending to x rest) from) count new_keys seen store trail
-  kept_moved count keys new_keys seen store trail kept le not_fresh small others same guard =
+  pub kept_moved : (count : ℕ) (keys new_keys : List State) (seen : ℕ) (store : Store) (trail : Assignment) → AreKept (merged lists from) count keys seen store trail → (3 ≤ to → x.blocker.var < trail.room) → ((other : ℕ) → (other ≡ first.key → ⊥) → state_in new_keys other ≡ state_in keys other) → is_attached (state_in new_keys first.key) ≡ is_attached (state_in keys first.key) → ((lits : Nogood) → lits_at store first.key ≡ Some lits → IsGuarded (merged (moved lists pending to x rest) from) trail seen first.key lits (state_in new_keys first.key)) → AreKept (merged (moved lists pending to x rest) from) count new_keys seen store trail
+  kept_moved count keys new_keys seen store trail kept small others same guard =
       kept_changed (merged lists from) (merged (moved lists pending to x rest) from) count keys new_keys seen store trail first.key kept others same keep_moved
       (λ list w high has. elim (only_moved list w (omega arith) has) [
         | inl old ↦ inl old
-        | inr new ↦ elim (cases_eq list fresh) [
-          | inl at ↦ (
-              let h = not_fresh (sym new.0 ∙ at) in
-              inl (subst (λ (n : ℕ). Contains (merged lists from n) w) (sym (at ∙ sym h.0)) (merged_pending lists from w (subst (λ (ws : List Watch). Contains ws w) (sym is) (subst (λ (y : Watch). Contains (first ∷ rest) y) (sym h.1 ∙ new.1) (Contains-first first rest))))))
-          | inr other ↦ (
-              let four : 4 ≤ list = omega arith in
-              inr (four, subst (λ (y : Watch). y.blocker.var < trail.room) new.1 (small (omega (arith, new.0)))))
-        ]
+        | inr new ↦ inr (subst (λ (y : Watch). y.blocker.var < trail.room) new.1 (small (omega (arith, new.0))))
       ])
-      (let a = kept.spare in omega (arith, a, free_moved (λ e. absurd (omega arith)), fresh_moved (λ e. (not_fresh e).0)))
       guard

@@ -19,7 +19,7 @@ use Rattle.ms_watch.specs.declared.lists.Watch.{Watch}
 use Rattle.ms_watch.specs.declared.state.State.{State}
 use Rattle.ms_watch.specs.declared.state.State.TheVariants.{Detached, Loose, Watched}
 use Rattle.ms_watch.specs.Links.{Links, HasFront, HaveLists, relinked, swapped}
-use Rattle.ms_watch.specs.Watches.{Watching, pending, free, plain, fresh, list_of, state_in, is_attached, lits_at, HasKey, HasWatch, HasFalse, IsQuiet, IsWatchedBy, AreWatched, IsGuarded, AreKept, AreInStep}
+use Rattle.ms_watch.specs.Watches.{Watching, pending, list_of, state_in, is_attached, lits_at, HasKey, HasWatch, HasFalse, IsQuiet, IsWatchedBy, AreWatched, IsGuarded, AreKept, AreInStep}
 use Rattle.ms_watch.specs.Walks.{merged, pending_in, WatchesLit, AreFaced, IsPassing, IsWalking}
 use Rattle.ms_watch.proofs.Linked.{front_is, none_is, have_relinked, have_swapped, flip, flip_one, flip_other, flip_neither}
 use Rattle.ms_watch.proofs.Fronts.{up_to_append, up_to_all}
@@ -31,7 +31,6 @@ use Rattle.ms_watch.proofs.Pending.{pending_is}
 -- what is pending doesn't matter by itself
 pub kept_same : (lists new : ℕ → List Watch) (count : ℕ) (keys : List State) (seen : ℕ) (store : Store) (trail : Assignment) → ((n : ℕ) → 1 ≤ n → new n ≡ lists n) → AreKept lists count keys seen store trail → AreKept new count keys seen store trail
 kept_same lists new count keys seen store trail same kept =
-    let one : 1 ≤ fresh = omega arith in
     record {
       leveled = kept.leveled;
       looked = kept.looked;
@@ -39,8 +38,6 @@ kept_same lists new count keys seen store trail same kept =
       stored = kept.stored;
       covered = kept.covered;
       blockers = λ list le. subst (All (λ (w : Watch). w.blocker.var < trail.room)) (sym (same list (omega arith))) (kept.blockers list le);
-      calm = λ key lits has attached found. kept.calm key lits (subst (λ (ws : List Watch). HasKey ws key) (same fresh one) has) attached found;
-      spare = omega (arith, kept.spare, ap length (same fresh one), ap length (same free (omega arith)));
       guarded = λ key lits found. guarded_mapped lists new trail trail seen seen key lits (state_in keys key) (omega arith)
           (λ list le has. subst (λ (ws : List Watch). HasKey ws key) (sym (same list (omega arith))) has)
           (λ lit has. subst (λ (ws : List Watch). HasWatch ws key lits) (sym (same (list_of lit) (omega arith))) has)
@@ -104,7 +101,7 @@ ends list w store trail lists have kept none = record {
 }
 
 -- the blocker of what is pending
-pub blocker_there : (lists : ℕ → List Watch) (list : ℕ) (watch : Watch) (rest : List Watch) (count : ℕ) (keys : List State) (seen : ℕ) (store : Store) (trail : Assignment) → lists pending ≡ watch ∷ rest → AreKept (merged lists list) count keys seen store trail → 4 ≤ list → watch.blocker.var < trail.room
+pub blocker_there : (lists : ℕ → List Watch) (list : ℕ) (watch : Watch) (rest : List Watch) (count : ℕ) (keys : List State) (seen : ℕ) (store : Store) (trail : Assignment) → lists pending ≡ watch ∷ rest → AreKept (merged lists list) count keys seen store trail → 3 ≤ list → watch.blocker.var < trail.room
 blocker_there lists list watch rest count keys seen store trail is kept four =
     All-contains (λ (y : Watch). y.blocker.var < trail.room) (merged lists list list) watch (kept.blockers list four)
     (merged_pending lists list watch (subst (λ (ws : List Watch). Contains ws watch) (sym is) (Contains-first watch rest)))
@@ -130,7 +127,7 @@ goes_back list w new store trail watch p front links keys seen there le =
       kept = subst (λ (n : ℕ). AreKept (merged lists list) n new.keys new.seen store trail) (sym heads)
           (subst (λ (n : ℕ). AreKept (merged lists list) (length w.links.heads) new.keys n store trail) (sym seen)
           (subst (λ (ks : List State). AreKept (merged lists list) (length w.links.heads) ks w.seen store trail) (sym keys)
-          (kept_moved p.lists list list watch watch rest f.1 apart (length w.links.heads) w.keys w.keys w.seen store trail p.kept le (λ e. (e, refl))
+          (kept_moved p.lists list list watch watch rest f.1 apart (length w.links.heads) w.keys w.keys w.seen store trail p.kept
             (λ four. blocker_there p.lists list watch rest (length w.links.heads) w.keys w.seen store trail f.1 p.kept four)
             (λ k other. refl) refl
             (λ lits found. guarded_mapped (merged p.lists list) (merged lists list) trail trail w.seen w.seen watch.key lits (state_in w.keys watch.key) (omega arith)
@@ -203,8 +200,6 @@ kept_seen lists count keys seen store trail lit kept lt at faced =
       stored = kept.stored;
       covered = kept.covered;
       blockers = kept.blockers;
-      calm = kept.calm;
-      spare = kept.spare;
       guarded = λ key lits found. guard (state_in keys key) key lits refl found (kept.guarded key lits found);
     }
 

@@ -13,8 +13,8 @@ use Rattle.ms_watch.specs.declared.state.State.{State}
 use Rattle.ms_watch.specs.declared.state.State.TheVariants.{Detached, Loose, Watched}
 use Rattle.ms_watch.specs.declared.state.Fate.{Fate}
 use Rattle.ms_watch.specs.declared.state.Fate.TheVariants.{Stays, Goes, Moves, Forces, Whole}
-use Rattle.ms_watch.specs.Links.{Links, HaveLists, no_node, put, relinked}
-use Rattle.ms_watch.specs.Watches.{Watching, AreKept, HasWatch, HasKey, HasFalse, lits_at, state_in, list_of, pending, free, plain, fresh}
+use Rattle.ms_watch.specs.Links.{Links, HasFront, HaveLists, no_node, put, relinked}
+use Rattle.ms_watch.specs.Watches.{Watching, AreKept, HasWatch, HasKey, HasFalse, lits_at, state_in, list_of, pending, free, loose}
 
 -- how many nodes follow one another from a start on, of so many
 unfoldable pub reach : List Node → ℕ → ℕ → ℕ
@@ -80,34 +80,25 @@ IsFate store entries state watch lit (Moves next other) = IsOther state lit othe
 IsFate store entries state watch lit (Forces other) = IsOther state lit other × AreTrueBut store entries watch.key other × (value_in entries other.var ≡ None)
 IsFate store entries state watch lit Whole = (other : Lit) × IsOther state lit other × AreTrueBut store entries watch.key other × HoldsIn entries other
 
--- The fresh nogoods are looked at; those that weren't are pending.
-pub record IsSettling (w : Watching) (store : Store) (trail : Assignment) : Type 0 where
-  pub lists : ℕ → List Watch
-  pub have : HaveLists w.links lists
-  pub kept : AreKept (merged lists fresh) (length w.links.heads) w.keys w.seen store trail
-  pub none : lists fresh ≡ []
-
 -- The loose nogoods among the watches are calm in the entries.
 abbrev pub AreCalm : List Watch → List State → Store → List Entry → Type 0
 AreCalm watches keys store entries = (key : ℕ) → HasKey watches key → state_in keys key ≡ Loose → IsCalmAt store entries key
 
--- The plain nogoods are looked at: those that were are calm, as long as there are so many entries.
-pub record IsRevisiting (before : ℕ) (w : Watching) (store : Store) (trail : Assignment) : Type 0 where
+-- The loose nogoods are looked at: those that were are calm, as long as there are so many entries.
+pub record IsSettling (before : ℕ) (w : Watching) (store : Store) (trail : Assignment) : Type 0 where
   pub lists : ℕ → List Watch
   pub have : HaveLists w.links lists
-  pub kept : AreKept (merged lists plain) (length w.links.heads) w.keys w.seen store trail
-  pub none : lists fresh ≡ []
+  pub kept : AreKept (merged lists loose) (length w.links.heads) w.keys w.seen store trail
   pub longer : before ≤ length trail.entries
-  pub calm : length trail.entries ≡ before → AreCalm (lists plain) w.keys store trail.entries
+  pub calm : length trail.entries ≡ before → AreCalm (lists loose) w.keys store trail.entries
 
--- Nothing is pending or fresh, and the plain nogoods are calm.
-pub record AreVisited (w : Watching) (store : Store) (trail : Assignment) : Type 0 where
+-- Nothing is pending, and the loose nogoods are calm.
+pub record AreSettled (w : Watching) (store : Store) (trail : Assignment) : Type 0 where
   pub lists : ℕ → List Watch
   pub have : HaveLists w.links lists
   pub kept : AreKept lists (length w.links.heads) w.keys w.seen store trail
   pub none : lists pending ≡ []
-  pub none_fresh : lists fresh ≡ []
-  pub calm : AreCalm (lists plain) w.keys store trail.entries
+  pub calm : AreCalm (lists loose) w.keys store trail.entries
 
 -- The nogood of the key is watched by these literals: the first pending watch goes to the one, and a free one to the
 -- other.
@@ -117,3 +108,7 @@ watching w key first second = record {
   keys = slice_set w.keys key (Watched first second);
   seen = w.seen;
 }
+
+-- A free watch is there and the nogood is watched by the literals, or the first pending watch goes to the loose ones.
+abbrev pub Places : Watching → Watching → Watch → Lit → Lit → Type 0
+Places old new watch first second = (((spare : Watch) × HasFront old.links free spare) × (new ≡ watching old watch.key first second)) ⊎ (new ≡ record { links = relinked old.links pending loose watch; keys = old.keys; seen = old.seen })

@@ -7,7 +7,6 @@ use Rattle.ms_lits.specs.declared.trail.Entry.{Entry}
 use Rattle.ms_lits.specs.Literals.{Nogood, opposite_of}
 use Rattle.ms_lits.specs.Assignment.{Assignment, HoldsIn, up_to}
 use Rattle.ms_nogood.specs.Store.{Store, slot_at}
-use Rattle.ms_nogood.specs.Looks.{IsCalmIn}
 use Rattle.ms_watch.specs.declared.lists.Watch.{Watch}
 use Rattle.ms_watch.specs.declared.state.State.{State}
 use Rattle.ms_watch.specs.declared.state.State.TheVariants.{Detached, Loose, Watched}
@@ -19,22 +18,20 @@ pub record Watching : Type 0 where
   pub keys : List State
   pub seen : ℕ
 
--- the lists that aren't those of a literal: of what is walked, of free watches, of plain and of fresh nogoods
+-- the lists that aren't those of a literal: of what is walked, of free watches, and of nogoods that are looked at
+-- each time
 abbrev pub pending : ℕ
 pending = 0
 
 abbrev pub free : ℕ
 free = 1
 
-abbrev pub plain : ℕ
-plain = 2
-
-abbrev pub fresh : ℕ
-fresh = 3
+abbrev pub loose : ℕ
+loose = 2
 
 -- the list of a literal
 abbrev pub list_of : Lit → ℕ
-list_of lit = 4 + 2 * lit.var + cond lit.truth 1 0
+list_of lit = 3 + 2 * lit.var + cond lit.truth 1 0
 
 abbrev pub state_in : List State → ℕ → State
 state_in keys key = slice_index_or keys key Detached
@@ -86,17 +83,13 @@ pub record AreWatched (lists : ℕ → List Watch) (trail : Assignment) (seen ke
 -- The nogood of the key will be looked at, or is watched by two of its literals.
 abbrev pub IsGuarded : (ℕ → List Watch) → Assignment → ℕ → ℕ → Nogood → State → Type 0
 IsGuarded lists trail seen key lits Detached = Unit {0}
-IsGuarded lists trail seen key lits Loose = HasKey (lists plain) key ⊎ HasKey (lists fresh) key
+IsGuarded lists trail seen key lits Loose = HasKey (lists loose) key
 IsGuarded lists trail seen key lits (Watched first second) = AreWatched lists trail seen key lits first second
 
 -- Levels rise along the entries, up to the present one.
 pub record AreLeveled (trail : Assignment) : Type 0 where
   pub rising : (i k : ℕ) (d : Entry) → i ≤ k → k < length trail.entries → (slice_index_or trail.entries i d).level ≤ (slice_index_or trail.entries k d).level
   pub present : (i : ℕ) (d : Entry) → i < length trail.entries → (slice_index_or trail.entries i d).level ≤ trail.level
-
--- The nogood has fewer than two literals, or is calm in the literals up to each level below the present one.
-abbrev pub IsCalmBelow : Assignment → Nogood → Type 0
-IsCalmBelow trail lits = (length lits < 2) ⊎ ((level : ℕ) → level < trail.level → IsCalmIn (up_to level trail.entries) lits)
 
 -- So many lists hold what is needed of each attached key.
 pub record AreKept (lists : ℕ → List Watch) (count : ℕ) (keys : List State) (seen : ℕ) (store : Store) (trail : Assignment) : Type 0 where
@@ -106,10 +99,7 @@ pub record AreKept (lists : ℕ → List Watch) (count : ℕ) (keys : List State
   pub late : (i : ℕ) (d : Entry) → seen ≤ i → i < length trail.entries → (slice_index_or trail.entries i d).level ≡ trail.level
   pub stored : (key : ℕ) → is_attached (state_in keys key) ≡ true → IsSome (lits_at store key)
   pub covered : (key : ℕ) (lits : Nogood) → is_attached (state_in keys key) ≡ true → lits_at store key ≡ Some lits → All (λ lit. list_of lit < count) lits
-  pub blockers : (list : ℕ) → 4 ≤ list → All (λ watch. watch.blocker.var < trail.room) (lists list)
-  pub calm : (key : ℕ) (lits : Nogood) → HasKey (lists fresh) key → is_attached (state_in keys key) ≡ true → lits_at store key ≡ Some lits → IsCalmBelow trail lits
-  -- for each fresh nogood a second watch
-  pub spare : length (lists fresh) ≤ length (lists free)
+  pub blockers : (list : ℕ) → 3 ≤ list → All (λ watch. watch.blocker.var < trail.room) (lists list)
   pub guarded : (key : ℕ) (lits : Nogood) → lits_at store key ≡ Some lits → IsGuarded lists trail seen key lits (state_in keys key)
 
 -- The watches are in step with a store and a trail.
@@ -119,7 +109,6 @@ pub record AreInStep (w : Watching) (store : Store) (trail : Assignment) : Type 
   pub kept : AreKept lists (length w.links.heads) w.keys w.seen store trail
   pub none : lists pending ≡ []
 
--- Each literal of the trail was looked at, and each attached nogood.
-pub record HaveLooked (w : Watching) (trail : Assignment) : Type 0 where
-  pub all : w.seen ≡ length trail.entries
-  pub none : (watch : Watch) → ¬ HasFront w.links fresh watch
+-- Each literal of the trail was looked at.
+abbrev pub HaveLooked : Watching → Assignment → Type 0
+HaveLooked w trail = w.seen ≡ length trail.entries

@@ -8,13 +8,11 @@ use ms_lits::Lit;
 pub(crate) const PENDING: usize = 0;
 /// Watches that nothing is watched by.
 pub(crate) const FREE: usize = 1;
-/// The nogoods that are looked at in each call: those without two different literals, and those that were asleep when
-/// they were looked at.
-pub(crate) const PLAIN: usize = 2;
-/// The nogoods that weren't looked at since they were attached.
-pub(crate) const FRESH: usize = 3;
+/// The nogoods that are looked at in each call: those that were attached since the last one, those without two different
+/// literals, and those that were asleep when they were looked at.
+pub(crate) const LOOSE: usize = 2;
 /// From here on the lists of the literals.
-pub(crate) const LITERALS: usize = 4;
+pub(crate) const LITERALS: usize = 3;
 
 /// The list of the nogoods that watch a literal.
 pub(crate) fn list_of(lit: Lit) -> usize
@@ -28,7 +26,7 @@ pub(crate) fn list_of(lit: Lit) -> usize
 #[derive(Clone, Copy, Debug, PartialEq, Eq)]
 pub(crate) enum State {
     Detached,
-    /// It is among the plain or the fresh ones.
+    /// It is looked at in each call.
     Loose,
     /// It is in the lists of these two literals.
     Watched(Lit, Lit),

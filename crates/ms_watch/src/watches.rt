@@ -6,12 +6,12 @@ ghost use Rattle.ms_nogood.specs.Store.{nogood_at, slot_at};
 ghost use Rattle.ms_nogood.specs.Propagation.{IsWithin, Propagates, IsWholeAt};
 ghost use Rattle.ms_watch.specs.declared.lists.Watch.{Watch};
 ghost use Rattle.ms_watch.specs.Links.{HasFront, relinked, swapped};
-ghost use Rattle.ms_watch.specs.Watches.{AreInStep, HaveLooked, is_attached, state_in, list_of, pending, free, plain, fresh};
-ghost use Rattle.ms_watch.specs.Walks.{IsWalking, IsOther, WatchesLit, AreFaced, IsPassing, IsFate, IsSettling, IsRevisiting, AreVisited, pending_in, watching};
+ghost use Rattle.ms_watch.specs.Watches.{AreInStep, HaveLooked, is_attached, state_in, list_of, pending, free, loose};
+ghost use Rattle.ms_watch.specs.Walks.{IsWalking, IsOther, WatchesLit, AreFaced, IsPassing, IsFate, IsSettling, AreSettled, Places, pending_in};
 
 use crate::choice::{Choice, choose, is_false, is_true, replacement};
 use crate::lists::{Lists, Watch};
-use crate::state::{FREE, FRESH, Fate, LITERALS, PENDING, PLAIN, State, list_of};
+use crate::state::{FREE, Fate, LITERALS, LOOSE, PENDING, State, list_of};
 use ms_lits::{Lit, OutOfMemory, Trail};
 use ms_nogood::{Nogoods, Propagate, Scan};
 use std::alloc::Global;
@@ -139,7 +139,7 @@ impl Watches {
             Fate::Whole if store.awake(key) => return true,
             Fate::Forces(_) | Fate::Whole => {
                 self.keys[key] = State::Loose;
-                self.lists.relink(PENDING, PLAIN, watch);
+                self.lists.relink(PENDING, LOOSE, watch);
             }
         }
         false
@@ -167,7 +167,7 @@ impl Watches {
         }
     }
 
-    /// Looks at the fresh nogoods.
+    /// Looks at the loose nogoods.
     fn settle(&mut self, store: &Nogoods, trail: &mut Trail) -> Option<usize>
         requires within { IsWithin store.now trail.old.room }
         requires in_step { AreInStep self.old store.now trail.old }
@@ -176,137 +176,88 @@ impl Watches {
         ensures seen { self.new.seen ≡ self.old.seen }
         ensures whole { IfSome result (λ key. IsWholeAt store.now trail.new.entries key) }
         ensures in_step { AreInStep self.new store.now trail.new }
-        ensures none { IfNone result ((watch : Watch) → ¬ HasFront self.new.links fresh watch) }
+        ensures settled { IfNone result (length trail.new.entries ≡ length trail.old.entries → AreSettled self.new store.now trail.new) }
     {
-        if !self.has_list(FRESH) {
+        if !self.has_list(LOOSE) {
             return None;
         }
-        self.begin(FRESH);
+        self.begin(LOOSE);
         while let Some(watch) = self.pending() {
             if self.settle_one(watch, store, trail) {
-                self.put_back(FRESH, store, trail);
+                self.put_back(LOOSE, store, trail);
                 return Some(watch.key);
             }
         }
         None
     }
 
-    /// Looks at the first pending fresh nogood, and tells whether it is whole.
+    /// Looks at the first pending loose nogood, and tells whether it is whole.
     fn settle_one(&mut self, watch: Watch, store: &Nogoods, trail: &mut Trail) -> bool
         requires within { IsWithin store.now trail.old.room }
-        requires settling { IsSettling self.old store.now trail.old }
+        requires walking { IsWalking loose self.old store.now trail.old }
         requires front { HasFront self.old.links pending watch }
-        requires there { fresh < length self.old.links.heads }
+        requires there { loose < length self.old.links.heads }
         ensures propagates { Propagates store.now trail.old trail.new }
         ensures attached { (key : ℕ) → is_attached (state_in self.new.keys key) ≡ is_attached (state_in self.old.keys key) }
         ensures seen { self.new.seen ≡ self.old.seen }
         ensures lists { length self.new.links.heads ≡ length self.old.links.heads }
-        ensures settling { IsSettling self.new store.now trail.new }
+        ensures settling { (before : ℕ) → IsSettling before self.old store.now trail.old → IsSettling before self.new store.now trail.new }
         ensures fewer { result ≡ false → pending_in self.new.links < pending_in self.old.links }
         ensures whole { IsTrue result → IsWholeAt store.now trail.new.entries watch.key }
     {
         let key = watch.key;
         if self.state(key) != State::Loose {
-            self.lists.relink(PENDING, FREE, watch);
+            self.send(FREE, watch);
             return false;
         }
         if !store.awake(key) {
-            self.lists.relink(PENDING, PLAIN, watch);
+            self.send(LOOSE, watch);
             return false;
         }
+        let _assignment = trail.len();
         match choose(store.get(key), trail) {
             Choice::Whole(_) => return true,
-            Choice::Two(first, second) => self.watch(key, first, second),
+            Choice::Two(first, second) => self.watch(watch, first, second),
             Choice::One(lit, top) => {
                 if !is_false(lit, trail) {
                     trail.assign(lit.opposite(), Some(key));
                 }
                 match top {
-                    Some(top) => self.watch(key, lit, top),
-                    None => self.lists.relink(PENDING, PLAIN, watch),
+                    Some(top) if trail.level_of(top.var) == trail.level() => {
+                        self.watch(watch, lit, top);
+                    }
+                    _ => self.send(LOOSE, watch),
                 }
             }
         }
         false
     }
 
-    /// Watches two literals of the first pending nogood.
-    fn watch(&mut self, key: usize, first: Lit, second: Lit)
-        requires key { key < length self.old.keys }
-        requires front { (watch : Watch) × HasFront self.old.links pending watch }
-        requires spare { (watch : Watch) × HasFront self.old.links free watch }
+    /// Watches two literals of the first pending nogood, or leaves it loose where no watch is free.
+    fn watch(&mut self, watch: Watch, first: Lit, second: Lit)
+        requires key { watch.key < length self.old.keys }
+        requires front { HasFront self.old.links pending watch }
+        requires loose { loose < length self.old.links.heads }
         requires first { list_of first < length self.old.links.heads }
         requires second { list_of second < length self.old.links.heads }
-        ensures { self.new ≡ watching self.old key first second }
+        ensures { Places self.old self.new watch first second }
     {
+        if self.lists.front(FREE).is_none() {
+            self.lists.relink(PENDING, LOOSE, watch);
+            return;
+        }
+        let key = watch.key;
         self.keys[key] = State::Watched(first, second);
-        let watch = Watch {
+        let of_first = Watch {
             key,
             blocker: second,
         };
-        self.lists.relink(PENDING, list_of(first), watch);
-        let watch = Watch {
+        self.lists.relink(PENDING, list_of(first), of_first);
+        let of_second = Watch {
             key,
             blocker: first,
         };
-        self.lists.relink(FREE, list_of(second), watch);
-    }
-
-    /// Looks at the plain nogoods.
-    fn revisit(&mut self, store: &Nogoods, trail: &mut Trail) -> Option<usize>
-        requires within { IsWithin store.now trail.old.room }
-        requires in_step { AreInStep self.old store.now trail.old }
-        requires none { (watch : Watch) → ¬ HasFront self.old.links fresh watch }
-        ensures propagates { Propagates store.now trail.old trail.new }
-        ensures attached { (key : ℕ) → is_attached (state_in self.new.keys key) ≡ is_attached (state_in self.old.keys key) }
-        ensures seen { self.new.seen ≡ self.old.seen }
-        ensures whole { IfSome result (λ key. IsWholeAt store.now trail.new.entries key) }
-        ensures in_step { AreInStep self.new store.now trail.new }
-        ensures visited { IfNone result (length trail.new.entries ≡ length trail.old.entries → AreVisited self.new store.now trail.new) }
-    {
-        if !self.has_list(PLAIN) {
-            return None;
-        }
-        self.begin(PLAIN);
-        while let Some(watch) = self.pending() {
-            if self.revisit_one(watch, store, trail) {
-                self.put_back(PLAIN, store, trail);
-                return Some(watch.key);
-            }
-        }
-        None
-    }
-
-    /// Looks at the first pending plain nogood, and tells whether it is whole.
-    fn revisit_one(&mut self, watch: Watch, store: &Nogoods, trail: &mut Trail) -> bool
-        requires within { IsWithin store.now trail.old.room }
-        requires walking { IsWalking plain self.old store.now trail.old }
-        requires front { HasFront self.old.links pending watch }
-        requires there { plain < length self.old.links.heads }
-        ensures propagates { Propagates store.now trail.old trail.new }
-        ensures attached { (key : ℕ) → is_attached (state_in self.new.keys key) ≡ is_attached (state_in self.old.keys key) }
-        ensures seen { self.new.seen ≡ self.old.seen }
-        ensures lists { length self.new.links.heads ≡ length self.old.links.heads }
-        ensures revisiting { (before : ℕ) → IsRevisiting before self.old store.now trail.old → IsRevisiting before self.new store.now trail.new }
-        ensures fewer { result ≡ false → pending_in self.new.links < pending_in self.old.links }
-        ensures whole { IsTrue result → IsWholeAt store.now trail.new.entries watch.key }
-    {
-        let key = watch.key;
-        if self.state(key) != State::Loose {
-            self.lists.relink(PENDING, FREE, watch);
-            return false;
-        }
-        if store.awake(key) {
-            match choose(store.get(key), trail) {
-                Choice::Whole(_) => return true,
-                Choice::One(lit, _) if !is_false(lit, trail) => {
-                    trail.assign(lit.opposite(), Some(key));
-                }
-                Choice::One(_, _) | Choice::Two(_, _) => (),
-            }
-        }
-        self.lists.relink(PENDING, PLAIN, watch);
-        false
+        self.lists.relink(FREE, list_of(second), of_second);
     }
 
     /// The number of literals that were looked at.
@@ -361,7 +312,7 @@ impl Watches {
     fn put_back(&mut self, list: usize, store: &Nogoods, trail: &Trail)
         requires walking { IsWalking list self.old store.now trail.now }
         requires there { list < length self.old.links.heads }
-        requires apart { plain ≤ list }
+        requires apart { loose ≤ list }
         ensures in_step { AreInStep self.new store.now trail.now }
         ensures keys { self.new.keys ≡ self.old.keys }
         ensures seen { self.new.seen ≡ self.old.seen }
