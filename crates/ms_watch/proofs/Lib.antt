@@ -9,3 +9,4 @@ pub mod Passing
 pub mod Fates
 pub mod Forced
 pub mod Walking
+pub mod Settling

@@ -107,34 +107,62 @@ blocker_there lists list watch rest count keys seen store trail is kept four =
     (merged_pending lists list watch (subst (λ (ws : List Watch). Contains ws watch) (sym is) (Contains-first watch rest)))
 
 -- a pending watch goes back to its list
+pub back_kept : (list : ℕ) (lists : ℕ → List Watch) (count : ℕ) (keys : List State) (seen : ℕ) (store : Store) (trail : Assignment) (watch : Watch) (rest : List Watch) → lists pending ≡ watch ∷ rest → AreKept (merged lists list) count keys seen store trail → 2 ≤ list → AreKept (merged (moved lists pending list watch rest) list) count keys seen store trail
+back_kept list before count keys seen store trail watch rest is kept le =
+    let lists : ℕ → List Watch = moved before pending list watch rest in
+    let apart : list ≡ pending → ⊥ = λ e. absurd (omega arith) in
+    let stays : (n : ℕ) (x : Watch) → 2 ≤ n → Contains (merged before list n) x → Contains (merged lists list n) x = λ n x high has. elim (keep_or_first before list list watch watch rest is apart n x high has) [
+      | inl still ↦ still
+      | inr gone ↦ subst (λ (m : ℕ). Contains (merged lists list m) x) (sym gone.0) (subst (λ (y : Watch). Contains (merged lists list list) y) gone.1 (there_moved before list list watch watch rest is apart))
+    ] in
+    kept_moved before list list watch watch rest is apart count keys keys seen store trail kept
+        (λ three. blocker_there before list watch rest count keys seen store trail is kept three)
+        (λ k other. refl) refl
+        (λ lits found. guarded_mapped (merged before list) (merged lists list) trail trail seen seen watch.key lits (state_in keys watch.key) (omega arith)
+          (λ n high has. has_key (merged lists list n) watch.key has.watch (stays n has.watch high has.contained) has.same)
+          (λ l has. record { watch = has.watch; contained = stays (list_of l) has.watch (omega arith) has.contained; same = has.same; blocker = has.blocker })
+          (λ l quiet. quiet) (kept.guarded watch.key lits found))
+
+-- the lists where the first pending watch goes
+pub record HasMoved (w new : Watching) (lists : ℕ → List Watch) (to : ℕ) (watch x : Watch) : Type 0 where
+  pub rest : List Watch
+  pub is : lists pending ≡ watch ∷ rest
+  pub have : HaveLists new.links (moved lists pending to x rest)
+  pub heads : length new.links.heads ≡ length w.links.heads
+  pub fewer : pending_in new.links < pending_in w.links
+
+pub moves : (w new : Watching) (lists : ℕ → List Watch) (to : ℕ) (watch x : Watch) → HaveLists w.links lists → HasFront w.links pending watch → new.links ≡ relinked w.links pending to x → to < length w.links.heads → 1 ≤ to → HasMoved w new lists to watch x
+moves w new lists to watch x had front links there le =
+    let f = front_is w.links lists pending watch had front in
+    let rest : List Watch = f.0 in
+    let apart : to ≡ pending → ⊥ = λ e. absurd (omega arith) in
+    let have : HaveLists new.links (moved lists pending to x rest) = subst (λ (l : Links). HaveLists l (moved lists pending to x rest)) (sym links)
+        (have_relinked w.links lists pending to watch x rest had f.1 (λ e. apart (sym e)) (omega arith) there) in
+    let now : moved lists pending to x rest pending ≡ rest = pending_moved lists to to watch x rest f.1 apart in
+    let less : length (lists pending) ≡ 1 + length rest = omega (arith, ap length f.1) in
+    record {
+      rest = rest;
+      is = f.1;
+      have = have;
+      heads = ap (λ (l : Links). length l.heads) links ∙ length-set (set w.links.heads pending _) to _ ∙ length-set w.links.heads pending _;
+      fewer = omega (arith, pending_is new.links (moved lists pending to x rest) have, pending_is w.links lists had, ap length now, less);
+    }
+
+pub kept_as : (lists : ℕ → List Watch) (w new : Watching) (store : Store) (trail : Assignment) → length new.links.heads ≡ length w.links.heads → new.seen ≡ w.seen → AreKept lists (length w.links.heads) new.keys w.seen store trail → AreKept lists (length new.links.heads) new.keys new.seen store trail
+kept_as lists w new store trail heads seen kept =
+    subst (λ (n : ℕ). AreKept lists n new.keys new.seen store trail) (sym heads)
+    (subst (λ (n : ℕ). AreKept lists (length w.links.heads) new.keys n store trail) (sym seen) kept)
+
 pub goes_back : (list : ℕ) (w new : Watching) (store : Store) (trail : Assignment) (watch : Watch) → IsWalking list w store trail → HasFront w.links pending watch → new.links ≡ relinked w.links pending list watch → new.keys ≡ w.keys → new.seen ≡ w.seen → list < length w.links.heads → 2 ≤ list → IsWalking list new store trail × (pending_in new.links < pending_in w.links)
 goes_back list w new store trail watch p front links keys seen there le =
-    let f = front_is w.links p.lists pending watch p.have front in
-    let rest : List Watch = f.0 in
-    let lists : ℕ → List Watch = moved p.lists pending list watch rest in
-    let apart : list ≡ pending → ⊥ = λ e. absurd (omega arith) in
-    let now : lists pending ≡ rest = pending_moved p.lists list list watch watch rest f.1 apart in
-    let have : HaveLists new.links lists = subst (λ (l : Links). HaveLists l lists) (sym links)
-        (have_relinked w.links p.lists pending list watch watch rest p.have f.1 (λ e. apart (sym e)) (omega arith) there) in
-    let heads : length new.links.heads ≡ length w.links.heads = ap (λ (l : Links). length l.heads) links ∙ length-set (set w.links.heads pending _) list _ ∙ length-set w.links.heads pending _ in
-    let stays : (n : ℕ) (x : Watch) → 2 ≤ n → Contains (merged p.lists list n) x → Contains (merged lists list n) x = λ n x high has. elim (keep_or_first p.lists list list watch watch rest f.1 apart n x high has) [
-      | inl kept ↦ kept
-      | inr gone ↦ subst (λ (m : ℕ). Contains (merged lists list m) x) (sym gone.0) (subst (λ (y : Watch). Contains (merged lists list list) y) gone.1 (there_moved p.lists list list watch watch rest f.1 apart))
-    ] in
+    let m = moves w new p.lists list watch watch p.have front links there (omega arith) in
     (record {
-      lists = lists;
-      have = have;
-      kept = subst (λ (n : ℕ). AreKept (merged lists list) n new.keys new.seen store trail) (sym heads)
-          (subst (λ (n : ℕ). AreKept (merged lists list) (length w.links.heads) new.keys n store trail) (sym seen)
-          (subst (λ (ks : List State). AreKept (merged lists list) (length w.links.heads) ks w.seen store trail) (sym keys)
-          (kept_moved p.lists list list watch watch rest f.1 apart (length w.links.heads) w.keys w.keys w.seen store trail p.kept
-            (λ four. blocker_there p.lists list watch rest (length w.links.heads) w.keys w.seen store trail f.1 p.kept four)
-            (λ k other. refl) refl
-            (λ lits found. guarded_mapped (merged p.lists list) (merged lists list) trail trail w.seen w.seen watch.key lits (state_in w.keys watch.key) (omega arith)
-              (λ n high has. has_key (merged lists list n) watch.key has.watch (stays n has.watch high has.contained) has.same)
-              (λ l has. record { watch = has.watch; contained = stays (list_of l) has.watch (omega arith) has.contained; same = has.same; blocker = has.blocker })
-              (λ l quiet. quiet) (p.kept.guarded watch.key lits found)))));
-    }, (let less : length (p.lists pending) ≡ 1 + length rest = omega (arith, ap length f.1) in omega (arith, pending_is new.links lists have, pending_is w.links p.lists p.have, ap length now, less)))
+      lists = moved p.lists pending list watch m.rest;
+      have = m.have;
+      kept = kept_as (merged (moved p.lists pending list watch m.rest) list) w new store trail m.heads seen
+          (subst (λ (ks : List State). AreKept (merged (moved p.lists pending list watch m.rest) list) (length w.links.heads) ks w.seen store trail) (sym keys)
+          (back_kept list p.lists (length w.links.heads) w.keys w.seen store trail watch m.rest m.is p.kept le));
+    }, m.fewer)
 
 holds_cases : (xs ys : List Entry) (lit : Lit) → HoldsIn (xs ++ ys) lit → HoldsIn xs lit ⊎ HoldsIn ys lit
 holds_cases [] ys lit holds = inr holds

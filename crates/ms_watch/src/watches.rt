@@ -1,13 +1,14 @@
 // Propagation by watches.
-ghost use Rattle.std.specs.Prelude.{ℕ, ◌≡◌, ◌≢◌, ◌<◌, ◌≤◌, ◌+◌, ◌^◌, [], Some, IfNone, IfSome, IsSome, IsTrue, MatchOption, option_map, slice_get, length, true, false};
+ghost use Rattle.std.specs.Prelude.{ℕ, ◌≡◌, ◌≢◌, ◌<◌, ◌≤◌, ◌+◌, ◌^◌, ◌⊎◌, ◌++◌, ◌∷◌, [], Some, IfNone, IfSome, IsSome, IsTrue, MatchOption, is_some, option_map, slice_get, length, true, false};
 ghost use Rattle.ms_lits.specs.declared.lit.Lit.{Lit};
-ghost use Rattle.ms_lits.specs.Assignment.{HoldsIn, IsAssignment};
+ghost use Rattle.ms_lits.specs.Literals.{opposite_of};
+ghost use Rattle.ms_lits.specs.Assignment.{HoldsIn, IsAssignment, entry_made};
 ghost use Rattle.ms_nogood.specs.Store.{nogood_at, slot_at};
 ghost use Rattle.ms_nogood.specs.Propagation.{IsWithin, Propagates, IsWholeAt};
 ghost use Rattle.ms_watch.specs.declared.lists.Watch.{Watch};
 ghost use Rattle.ms_watch.specs.Links.{HasFront, relinked, swapped};
 ghost use Rattle.ms_watch.specs.Watches.{AreInStep, HaveLooked, is_attached, state_in, list_of, pending, free, loose};
-ghost use Rattle.ms_watch.specs.Walks.{IsWalking, IsOther, WatchesLit, AreFaced, IsPassing, IsFate, IsSettling, AreSettled, Places, pending_in};
+ghost use Rattle.ms_watch.specs.Walks.{IsWalking, IsOther, WatchesLit, AreFaced, IsPassing, IsFate, IsSettling, AreSettled, IsForcing, Places, pending_in};
 
 use crate::choice::{Choice, choose, is_false, is_true, replacement};
 use crate::lists::{Lists, Watch};
@@ -216,21 +217,17 @@ impl Watches {
         }
         let _assignment = trail.len();
         match choose(store.get(key), trail) {
-            Choice::Whole(_) => return true,
-            Choice::Two(first, second) => self.watch(watch, first, second),
-            Choice::One(lit, top) => {
-                if !is_false(lit, trail) {
-                    trail.assign(lit.opposite(), Some(key));
-                }
-                match top {
-                    Some(top) if trail.level_of(top.var) == trail.level() => {
-                        self.watch(watch, lit, top);
-                    }
-                    _ => self.send(LOOSE, watch),
-                }
+            Choice::Whole(_) => true,
+            Choice::Two(first, second) => {
+                self.watch(watch, first, second);
+                false
+            }
+            Choice::One(lit, _) => {
+                force(lit, key, store, trail);
+                self.send(LOOSE, watch);
+                false
             }
         }
-        false
     }
 
     /// Watches two literals of the first pending nogood, or leaves it loose where no watch is free.
@@ -321,4 +318,18 @@ impl Watches {
             self.send(list, watch);
         }
     }
+}
+
+/// Assigns the opposite of a literal that the nogood of a key forces, where it isn't assigned.
+fn force(lit: Lit, key: usize, store: &Nogoods, trail: &mut Trail)
+    requires room { lit.var < trail.old.room }
+    requires awake { is_some (nogood_at store.now key) ≡ true }
+    requires open { IsForcing store.now trail.old.entries key lit }
+    ensures propagates { Propagates store.now trail.old trail.new }
+    ensures assigned { ((trail.new ≡ trail.old) × HoldsIn trail.old.entries (opposite_of lit)) ⊎ (trail.new ≡ record trail.old { entries = trail.old.entries ++ entry_made (opposite_of lit) trail.old.level (Some key) ∷ [] }) }
+{
+    if is_false(lit, trail) {
+        return;
+    }
+    trail.assign(lit.opposite(), Some(key));
 }

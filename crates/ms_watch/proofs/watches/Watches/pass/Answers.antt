@@ -123,7 +123,7 @@ returns-in-Forces-2-clause-passing c =
     let v : Watching = record { links = c.self.inside.lists; keys = c.self.inside.keys.items; seen = c.self.inside.seen } in
     let view : v ≡ w = c.self.view_is in
     let new : Watching = record { links = c.relink-in-Forces-2.new.self; keys = (with_item c.self.inside.keys c.args.watch.key Loose).items; seen = c.self.inside.seen } in
-    let links : new.links ≡ relinked w.links pending loose c.args.watch = relinked_seen c.relink-in-Forces-2.new.self v w plain plain c.args.watch view c.relink-in-Forces-2.ensures refl in
+    let links : new.links ≡ relinked w.links pending loose c.args.watch = relinked_seen c.relink-in-Forces-2.new.self v w loose loose c.args.watch view c.relink-in-Forces-2.ensures refl in
     let keys : c.self.inside.keys.items ≡ w.keys = ap (λ (u : Watching). u.keys) view in
     let seen : new.seen ≡ w.seen = ap (λ (u : Watching). u.seen) view in
     let some : (other : Lit) × IsOther (state_in w.keys c.args.watch.key) c.args.lit other = elim c.in-Forces-2-1.branch [
@@ -142,7 +142,7 @@ returns-in-Forces-2-clause-fewer c is =
     let v : Watching = record { links = c.self.inside.lists; keys = c.self.inside.keys.items; seen = c.self.inside.seen } in
     let view : v ≡ w = c.self.view_is in
     let new : Watching = record { links = c.relink-in-Forces-2.new.self; keys = (with_item c.self.inside.keys c.args.watch.key Loose).items; seen = c.self.inside.seen } in
-    let links : new.links ≡ relinked w.links pending loose c.args.watch = relinked_seen c.relink-in-Forces-2.new.self v w plain plain c.args.watch view c.relink-in-Forces-2.ensures refl in
+    let links : new.links ≡ relinked w.links pending loose c.args.watch = relinked_seen c.relink-in-Forces-2.new.self v w loose loose c.args.watch view c.relink-in-Forces-2.ensures refl in
     let keys : c.self.inside.keys.items ≡ w.keys = ap (λ (u : Watching). u.keys) view in
     let seen : new.seen ≡ w.seen = ap (λ (u : Watching). u.seen) view in
     let some : (other : Lit) × IsOther (state_in w.keys c.args.watch.key) c.args.lit other = elim c.in-Forces-2-1.branch [
