@@ -1,29 +1,30 @@
 -- What becomes of a loose nogood.
-use Rattle.std.proofs.Common.{ℕ, ◌≡◌, ◌<◌, ◌≤◌, ◌+◌, ◌⊎◌, inl, inr, Bool, true, false, List, [], ◌∷◌, ◌++◌, Option, Some, None, length, get_or, set, sym, ◌∙◌, ap, subst, arith, refl}
-use Rattle.std.specs.Prelude.{All, Contains}
+use Rattle.std.proofs.Common.{ℕ, ◌≡◌, ◌<◌, ◌≤◌, ◌+◌, ◌-◌, ◌⊎◌, inl, inr, Bool, true, false, List, [], ◌∷◌, ◌++◌, Option, Some, None, length, get_or, set, sym, ◌∙◌, ap, subst, arith, refl}
+use Rattle.std.specs.Prelude.{All, Contains, not}
 use Rattle.std.proofs.lemmas.Bool.{cases_eq}
-use Rattle.std.proofs.lemmas.List.{length-append}
+use Rattle.std.proofs.lemmas.List.{length-append, length-set, get_or_past, get_or_default, get_or-set_other}
 use Rattle.std.proofs.lemmas.List.Elements.{All-contains}
 use Rattle.ms_lits.specs.declared.lit.Lit.{Lit}
 use Rattle.ms_lits.specs.declared.trail.Entry.{Entry}
 use Rattle.ms_lits.specs.Literals.{Nogood, opposite_of}
-use Rattle.ms_lits.specs.Assignment.{Assignment, HoldsIn, entry_made}
+use Rattle.ms_lits.specs.Assignment.{Assignment, HoldsIn, entry_made, value_in}
 use Rattle.ms_nogood.specs.Store.{Store, Stored, nogood_at}
 use Rattle.ms_nogood.specs.Looks.{IsCalmIn, IsCalmAt}
 use Rattle.ms_watch.specs.declared.lists.Watch.{Watch}
 use Rattle.ms_watch.specs.declared.state.State.{State}
 use Rattle.ms_watch.specs.declared.state.State.TheVariants.{Detached, Loose, Watched}
-use Rattle.ms_watch.specs.Links.{Links, HasFront, HaveLists, relinked}
+use Rattle.ms_watch.specs.Links.{Links, HasFront, HaveLists, relinked, swapped, no_node, watch_at}
+use Rattle.ms_watch.specs.declared.lists.Node.{Node}
 use Rattle.ms_watch.specs.Choices.{IsOpen, AreOpen}
 use Rattle.ms_watch.specs.Watches.{Watching, pending, free, loose, list_of, state_in, is_attached, lits_at, HasKey, HasWatch, HasFalse, AreWatched, IsGuarded, AreKept, AreInStep}
 use Rattle.ms_watch.specs.Walks.{merged, pending_in, IsWalking, AreCalm, IsSettling, AreSettled, Places, watching}
-use Rattle.ms_watch.proofs.Linked.{front_is, have_relinked}
+use Rattle.ms_watch.proofs.Linked.{front_is, none_is, have_relinked}
 use Rattle.ms_watch.proofs.Kept.{kept_assigned, with_lit, by_mapped}
 use Rattle.ms_watch.proofs.Moved.{Contains-cases, has_key, moved, moved_in, moved_out, moved_to, moved_else, moved_there, merged_in, merged_out, merged_at, merged_else, merged_pending, keep_moved, only_moved, there_moved, kept_moved, kept_changed, pending_moved}
 use Rattle.ms_watch.proofs.Passing.{listed_apart, has_apart, quiet_untrue}
 use Rattle.ms_watch.proofs.Fates.{state_set, state_else}
 use Rattle.ms_watch.proofs.Forced.{IsAwake, awake_is}
-use Rattle.ms_watch.proofs.Walking.{back_kept, moves, kept_as, ends, kept_same, HasMoved, relinked_heads}
+use Rattle.ms_watch.proofs.Walking.{back_kept, begins, moves, kept_as, ends, kept_same, HasMoved, relinked_heads}
 use Rattle.ms_watch.proofs.Pending.{pending_is}
 
 -- a nogood with a false literal whose others are true
@@ -220,3 +221,77 @@ watching_fewer w new store trail watch spare first second p front spare_front is
         (have_relinked mid.links middle free (list_of second) spare two f.0 m.have free_now (λ e. absurd (omega arith)) (omega (arith, m.heads)) (subst (λ n. list_of second < n) (sym m.heads) second_there)) in
     let same : lists pending ≡ middle pending = moved_else middle free (list_of second) two f.0 pending (λ e. absurd (omega arith)) (λ e. absurd (omega arith)) in
     omega (arith, m.fewer, pending_is new.links lists have, pending_is mid.links middle m.have, ap length same)
+
+-- less is pending after a move
+pub sent_fewer : (w new : Watching) (store : Store) (trail : Assignment) (watch : Watch) (to : ℕ) → IsWalking loose w store trail → HasFront w.links pending watch → new ≡ record { links = relinked w.links pending to watch; keys = w.keys; seen = w.seen } → to < length w.links.heads → 1 ≤ to → pending_in new.links < pending_in w.links
+sent_fewer w new store trail watch to p front is there le = (moves w new p.lists to watch watch p.have front (ap (λ (u : Watching). u.links) is) there le).fewer
+
+none_has : (watches : List Watch) (key : ℕ) → watches ≡ [] → HasKey watches key → ⊥
+none_has watches key none has =
+    let lt : has.contained.0 < length watches = has.contained.1 in
+    absurd (omega (arith, lt, ap length none))
+
+-- without a list of loose nogoods
+pub absent_settled : (w : Watching) (store : Store) (trail : Assignment) → AreInStep w store trail → length w.links.heads ≤ loose → AreSettled w store trail
+absent_settled w store trail step few =
+    let none : step.lists loose ≡ [] = none_is w.links step.lists loose step.have (λ first h. absurd (omega (arith, h.head, get_or_past w.links.heads loose 0 few))) in
+    record {
+      lists = step.lists;
+      have = step.have;
+      kept = step.kept;
+      none = step.none;
+      calm = λ key has state. absurd (none_has (step.lists loose) key none has);
+    }
+
+pub settling_begins : (w new : Watching) (store : Store) (trail : Assignment) → AreInStep w store trail → new ≡ record { links = swapped w.links loose pending; keys = w.keys; seen = w.seen } → loose < length w.links.heads → IsSettling (length trail.entries) new store trail
+settling_begins w new store trail step is there =
+    let b = begins loose w new store trail step (ap (λ (u : Watching). u.links) is) (ap (λ (u : Watching). u.keys) is) (ap (λ (u : Watching). u.seen) is) there (omega arith) in
+    record {
+      lists = b.begun;
+      have = b.have;
+      kept = b.kept;
+      longer = omega arith;
+      calm = λ same key has state. absurd (none_has (b.begun loose) key b.none has);
+    }
+
+pub settling_ends : (before : ℕ) (w : Watching) (store : Store) (trail : Assignment) → IsSettling before w store trail → ((watch : Watch) → ¬ HasFront w.links pending watch) → length trail.entries ≡ before → AreSettled w store trail
+settling_ends before w store trail s no_front same =
+    let none : s.lists pending ≡ [] = none_is w.links s.lists pending s.have no_front in
+    record {
+      lists = s.lists;
+      have = s.have;
+      kept = kept_same (merged s.lists loose) s.lists (length w.links.heads) w.keys w.seen store trail
+          (λ n one. elim (cases_eq n loose) [
+            | inl at ↦ sym (merged_at s.lists loose n at ∙ ap (λ (ws : List Watch). ws ++ s.lists n) none)
+            | inr other ↦ sym (merged_else s.lists loose n other)
+          ]) s.kept;
+      none = none;
+      calm = s.calm same;
+    }
+
+pub settling_in_step : (before : ℕ) (w : Watching) (store : Store) (trail : Assignment) → IsSettling before w store trail → ((watch : Watch) → ¬ HasFront w.links pending watch) → AreInStep w store trail
+settling_in_step before w store trail s no_front = ends loose w store trail s.lists s.have s.kept (none_is w.links s.lists pending s.have no_front)
+
+pub settling_walks : (before : ℕ) (w : Watching) (store : Store) (trail : Assignment) → IsSettling before w store trail → IsWalking loose w store trail
+settling_walks before w store trail s = record { lists = s.lists; have = s.have; kept = s.kept }
+
+-- another list has a first watch still
+pub front_other : (links new : Links) (to list : ℕ) (x w : Watch) → new ≡ relinked links pending to x → HasFront links list w → (list ≡ pending → ⊥) → (list ≡ to → ⊥) → (y : Watch) × HasFront new list y
+front_other links new to list x w is front apart other =
+    let next : ℕ = (get_or links.nodes (get_or links.heads pending 0 - 1) no_node).next in
+    (watch_at new.nodes front.place, record {
+      place = front.place;
+      head = ap (λ (l : Links). get_or l.heads list 0) is ∙ get_or-set_other (set links.heads pending next) to list (get_or links.heads pending 0) 0 other ∙ get_or-set_other links.heads pending list next 0 apart ∙ front.head;
+      within = (let le = front.within in omega (arith, le, ap (λ (l : Links). length l.nodes) is, length-set links.nodes (get_or links.heads pending 0 - 1) (record { watch = x; next = get_or (set links.heads pending next) to 0 })));
+      same = λ d. ap (λ (n : Node). n.watch) (get_or_default new.nodes front.place d no_node (let le = front.within in omega (arith, le, ap (λ (l : Links). length l.nodes) is, length-set links.nodes (get_or links.heads pending 0 - 1) (record { watch = x; next = get_or (set links.heads pending next) to 0 }))));
+    })
+
+none_value : (value : Option Bool) (truth : Bool) → (value ≡ Some truth → ⊥) → (value ≡ Some (not truth) → ⊥) → value ≡ None
+none_value None truth one other = refl
+none_value (Some true) true one other = absurd (one refl)
+none_value (Some true) false one other = absurd (other refl)
+none_value (Some false) true one other = absurd (other refl)
+none_value (Some false) false one other = absurd (one refl)
+
+pub value_none : (entries : List Entry) (lit : Lit) → ¬ HoldsIn entries lit → ¬ HoldsIn entries (opposite_of lit) → value_in entries lit.var ≡ None
+value_none entries lit one other = none_value (value_in entries lit.var) lit.truth one other

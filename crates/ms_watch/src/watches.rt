@@ -207,10 +207,10 @@ impl Watches {
         ensures whole { IsTrue result → IsWholeAt store.now trail.new.entries watch.key }
     {
         let key = watch.key;
-        if self.state(key) != State::Loose {
+        let State::Loose = self.state(key) else {
             self.send(FREE, watch);
             return false;
-        }
+        };
         if !store.awake(key) {
             self.send(LOOSE, watch);
             return false;
@@ -239,10 +239,10 @@ impl Watches {
         requires second { list_of second < length self.old.links.heads }
         ensures { Places self.old self.new watch first second }
     {
-        if self.lists.front(FREE).is_none() {
+        let Some(_spare) = self.lists.front(FREE) else {
             self.lists.relink(PENDING, LOOSE, watch);
             return;
-        }
+        };
         let key = watch.key;
         self.keys[key] = State::Watched(first, second);
         let of_first = Watch {
