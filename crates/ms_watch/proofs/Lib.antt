@@ -10,3 +10,5 @@ pub mod Fates
 pub mod Forced
 pub mod Walking
 pub mod Settling
+pub mod Steps
+pub mod Ends

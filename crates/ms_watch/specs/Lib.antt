@@ -2,3 +2,4 @@ pub mod Links
 pub mod Watches
 pub mod Walks
 pub mod Choices
+pub mod Steps

@@ -8,6 +8,7 @@ ghost use Rattle.ms_nogood.specs.Propagation.{IsWithin, Propagates, IsWholeAt};
 ghost use Rattle.ms_watch.specs.declared.lists.Watch.{Watch};
 ghost use Rattle.ms_watch.specs.Links.{HasFront, relinked, swapped};
 ghost use Rattle.ms_watch.specs.Watches.{AreInStep, HaveLooked, is_attached, state_in, list_of, pending, free, loose};
+ghost use Rattle.ms_watch.specs.Steps.{assigned, changed, descended, grown};
 ghost use Rattle.ms_watch.specs.Walks.{IsWalking, IsOther, WatchesLit, AreFaced, IsPassing, IsFate, IsSettling, AreSettled, IsForcing, Places, pending_in};
 
 use crate::choice::{Choice, choose, is_false, is_true, replacement};
@@ -34,6 +35,75 @@ impl Model for Watches {
     ghost Value = { Watching };
 
     ghost view = { λ w. record { links = w.lists; keys = w.keys.items; seen = w.seen } };
+}
+
+impl Propagate for Watches {
+    ghost attached = { λ w key. is_attached (state_in w.keys key) };
+
+    ghost InStep = { AreInStep };
+
+    ghost HasLooked = { λ w _ trail. HaveLooked w trail };
+
+    ghost assigns = { assigned };
+
+    ghost descends = { descended };
+
+    ghost grows = { grown };
+
+    ghost changes = { changed };
+
+    fn new(alloc: Global) -> Watches {
+        Watches {
+            lists: Lists::new(alloc),
+            keys: Vec::new(alloc),
+            seen: 0,
+        }
+    }
+
+    fn attached(&self, key: usize) -> bool {
+        self.state(key) != State::Detached
+    }
+
+    fn attach(&mut self, store: &Nogoods, _trail: &Trail, key: usize) -> Result<(), OutOfMemory> {
+        if key >= self.keys.len() {
+            let count = key.checked_add(1).ok_or(OutOfMemory)?;
+            self.keys.resize(count, State::Detached)?;
+        }
+        self.lists.grow(LITERALS)?;
+        for lit in store.get(key) {
+            self.lists.grow(list_of(*lit) + 1)?;
+        }
+        let watch = Watch {
+            key,
+            blocker: Lit::default(),
+        };
+        self.lists.add(FREE, watch)?;
+        self.lists.add(LOOSE, watch)?;
+        self.keys[key] = State::Loose;
+        Ok(())
+    }
+
+    fn detach(&mut self, key: usize) {
+        self.keys[key] = State::Detached;
+    }
+
+    fn back_to(&mut self, len: usize) {
+        self.seen = self.seen.min(len);
+    }
+
+    fn propagate(&mut self, store: &Nogoods, trail: &mut Trail) -> Scan {
+        loop {
+            if let Some(key) = self.follow(store, trail) {
+                return Scan::Violated(key);
+            }
+            if let Some(key) = self.settle(store, trail) {
+                return Scan::Violated(key);
+            }
+            if self.seen() == trail.len() {
+                return Scan::Closed;
+            }
+        }
+    }
 }
 
 impl Watches {
