@@ -7,7 +7,7 @@ use Rattle.ms_lits.specs.declared.trail.Entry.{Entry}
 use Rattle.ms_lits.specs.Literals.{Nogood}
 use Rattle.ms_lits.specs.Assignment.{Assignment, IsAssignment, HoldsIn, entry_of, up_to}
 use Rattle.ms_watch.specs.Choices.{IsTop, TellsTop, IsOpen, AreOpen}
-use Rattle.ms_watch.proofs.Levels.{HasEntry, holds_entry, level_up_to, holds_up_to}
+use Rattle.ms_watch.specs.Levels.{HasEntry, holds_entry, level_up_to, holds_up_to}
 
 level_is : (entries : List Entry) (lit : Lit) (level : ℕ) (e : Entry) → option_map (λ (x : Entry). x.level) (entry_of entries lit.var) ≡ Some level → entry_of entries lit.var ≡ Some e → e.level ≡ level
 level_is entries lit level e is found =

@@ -17,7 +17,7 @@ use Rattle.ms_watch.specs.declared.state.State.{State}
 use Rattle.ms_watch.specs.declared.state.State.TheVariants.{Detached, Loose, Watched}
 use Rattle.ms_watch.specs.Watches.{Watching, HasFalse, IsQuiet, AreWatched, IsGuarded, AreKept, state_in, is_attached, lits_at}
 use Rattle.ms_watch.specs.Walks.{AreSettled, AreCalm}
-use Rattle.ms_watch.proofs.Fronts.{up_to_all}
+use Rattle.ms_watch.specs.Fronts.{up_to_all}
 use Rattle.ms_watch.proofs.Settling.{calm_two}
 
 not_both : (value : Option Bool) (truth : Bool) → value ≡ Some truth → value ≡ Some (not truth) → ⊥

@@ -16,8 +16,8 @@ use Rattle.ms_watch.specs.Links.{Links, HasFront, HaveLists, relinked}
 use Rattle.ms_watch.specs.Watches.{Watching, pending, free, loose, list_of, state_in, is_attached, lits_at, HasKey, HasWatch, HasFalse, IsQuiet, IsWatchedBy, AreWatched, IsGuarded, AreKept}
 use Rattle.ms_watch.specs.Walks.{merged, pending_in, IsOther, WatchesLit, AreFaced, IsPassing, IsNext}
 use Rattle.ms_watch.proofs.Linked.{front_is}
-use Rattle.ms_watch.proofs.Fronts.{holds_more, false_whole}
-use Rattle.ms_watch.proofs.Kept.{kept_assigned, with_lit, guarded_mapped, by_mapped}
+use Rattle.ms_watch.specs.Fronts.{holds_more, false_whole}
+use Rattle.ms_watch.specs.Kept.{kept_assigned, with_lit, guarded_mapped, by_mapped}
 use Rattle.ms_watch.proofs.Moved.{Contains-first, Contains-cases, has_key, moved, merged_pending, there_moved}
 use Rattle.ms_watch.proofs.Passing.{list_of_same, quiet_untrue, keep_or_first, listed_stays, listed_apart, guarded_apart, IsPair, pair_from, other_attached, other_watches, Goes, passing_goes}
 

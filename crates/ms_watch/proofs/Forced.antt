@@ -13,7 +13,7 @@ use Rattle.ms_nogood.specs.Propagation.{Propagates, IsWholeAt, IsWithin}
 use Rattle.ms_nogood.proofs.Propagation.{propagates_one}
 use Rattle.ms_watch.specs.Watches.{lits_at}
 use Rattle.ms_watch.specs.Walks.{AreTrueBut}
-use Rattle.ms_watch.proofs.Kept.{with_lit}
+use Rattle.ms_watch.specs.Kept.{with_lit}
 
 pub record IsAwake (found : Option Stored) (lits : Nogood) : Type 0 where
   pub stored : Stored

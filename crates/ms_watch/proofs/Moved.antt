@@ -16,7 +16,7 @@ use Rattle.ms_watch.specs.Links.{put}
 use Rattle.ms_watch.specs.Watches.{pending, list_of, state_in, is_attached, lits_at, HasKey, HasWatch, IsGuarded, AreKept}
 use Rattle.ms_watch.specs.Walks.{merged}
 use Rattle.ms_watch.proofs.Linked.{put_here, put_other}
-use Rattle.ms_watch.proofs.Kept.{guarded_mapped}
+use Rattle.ms_watch.specs.Kept.{guarded_mapped}
 
 pub Contains-first : {X : Type 0} (x : X) (xs : List X) → Contains (x ∷ xs) x
 Contains-first x xs = (0, omega arith, refl)

@@ -16,8 +16,8 @@ use Rattle.ms_watch.specs.Links.{Links, HasFront, HaveLists, relinked}
 use Rattle.ms_watch.specs.Watches.{Watching, pending, loose, list_of, state_in, is_attached, lits_at, HasKey, HasWatch, HasFalse, IsQuiet, IsWatchedBy, AreWatched, IsGuarded, AreKept}
 use Rattle.ms_watch.specs.Walks.{merged, pending_in, IsOther, WatchesLit, AreFaced, IsPassing}
 use Rattle.ms_watch.proofs.Linked.{front_is, have_relinked}
-use Rattle.ms_watch.proofs.Fronts.{Rises, up_to_front, holds_more, false_whole}
-use Rattle.ms_watch.proofs.Kept.{kept_assigned, with_lit, guarded_mapped, by_mapped}
+use Rattle.ms_watch.specs.Fronts.{Rises, up_to_front, holds_more, false_whole}
+use Rattle.ms_watch.specs.Kept.{kept_assigned, with_lit, guarded_mapped, by_mapped}
 use Rattle.ms_watch.proofs.Moved.{Contains-first, Contains-behind, Contains-cases, has_key, moved, merged_in, merged_out, merged_pending, moved_in, pending_moved, there_moved, kept_moved}
 use Rattle.ms_watch.proofs.Pending.{pending_is}
 

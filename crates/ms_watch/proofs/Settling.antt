@@ -19,7 +19,7 @@ use Rattle.ms_watch.specs.Choices.{IsOpen, AreOpen}
 use Rattle.ms_watch.specs.Watches.{Watching, pending, free, loose, list_of, state_in, is_attached, lits_at, HasKey, HasWatch, HasFalse, AreWatched, IsGuarded, AreKept, AreInStep}
 use Rattle.ms_watch.specs.Walks.{merged, pending_in, IsWalking, AreCalm, IsSettling, AreSettled, Places, watching}
 use Rattle.ms_watch.proofs.Linked.{front_is, none_is, have_relinked}
-use Rattle.ms_watch.proofs.Kept.{kept_assigned, with_lit, by_mapped}
+use Rattle.ms_watch.specs.Kept.{kept_assigned, with_lit, by_mapped}
 use Rattle.ms_watch.proofs.Moved.{Contains-cases, has_key, moved, moved_in, moved_out, moved_to, moved_else, moved_there, merged_in, merged_out, merged_at, merged_else, merged_pending, keep_moved, only_moved, there_moved, kept_moved, kept_changed, pending_moved}
 use Rattle.ms_watch.proofs.Passing.{listed_apart, has_apart, quiet_untrue}
 use Rattle.ms_watch.proofs.Fates.{state_set, state_else}

@@ -15,22 +15,7 @@ use Rattle.ms_watch.specs.declared.state.State.TheVariants.{Detached, Loose, Wat
 use Rattle.ms_watch.specs.Links.{Links, HaveLists}
 use Rattle.ms_watch.specs.Watches.{Watching, pending, free, loose, list_of, state_in, is_attached, lits_at, AreKept, AreInStep, HaveLooked}
 use Rattle.ms_watch.proofs.Linked.{have_none}
-use Rattle.ms_watch.proofs.Kept.{kept_assigned, kept_descended, kept_grown, kept_stored, kept_back, kept_cleared, kept_none, kept_detached, with_lit, with_level}
-
-in_step : (w : Watching) (store new_store : Store) (trail new : Assignment) → (step : AreInStep w store trail) → AreKept step.lists (length w.links.heads) w.keys w.seen new_store new → AreInStep w new_store new
-in_step w store new_store trail new step kept = record { lists = step.lists; have = step.have; kept = kept; none = step.none }
-
-pub step_assigned : (w : Watching) (store : Store) (trail : Assignment) (lit : Lit) (reason : Option ℕ) → AreInStep w store trail → lit.var < trail.room → value_in trail.entries lit.var ≡ None → AreInStep w store (with_lit trail lit reason)
-step_assigned w store trail lit reason step lt free_var = in_step w store store trail (with_lit trail lit reason) step (kept_assigned step.lists (length w.links.heads) w.keys w.seen store trail lit reason step.kept)
-
-pub step_descended : (w : Watching) (store : Store) (trail : Assignment) → AreInStep w store trail → HaveLooked w trail → AreInStep w store (with_level trail (trail.level + 1))
-step_descended w store trail step all = in_step w store store trail (with_level trail (trail.level + 1)) step (kept_descended step.lists (length w.links.heads) w.keys w.seen store trail step.kept all)
-
-pub step_grown : (w : Watching) (store : Store) (trail : Assignment) (room : ℕ) → AreInStep w store trail → trail.room ≤ room → AreInStep w store (record { entries = trail.entries; level = trail.level; room = room })
-step_grown w store trail room step more = in_step w store store trail (record { entries = trail.entries; level = trail.level; room = room }) step (kept_grown step.lists (length w.links.heads) w.keys w.seen store trail room step.kept more)
-
-pub step_changed : (w : Watching) (old new : Store) (trail : Assignment) → AreInStep w old trail → ((key : ℕ) → is_attached (state_in w.keys key) ≡ true → HasSameLits old new key) → AreInStep w new trail
-step_changed w old new trail step same = in_step w old new trail trail step (kept_stored step.lists (length w.links.heads) w.keys w.seen old new trail step.kept same)
+use Rattle.ms_watch.specs.Kept.{kept_assigned, kept_descended, kept_grown, kept_stored, kept_back, kept_cleared, kept_none, kept_detached, with_lit, with_level}
 
 pub step_back : (w new : Watching) (store : Store) (trail : Assignment) (level len : ℕ) → new.links ≡ w.links → new.keys ≡ w.keys → new.seen ≤ w.seen → new.seen ≤ len → (new.seen ≡ w.seen) ⊎ (new.seen ≡ len) → level ≤ trail.level → length (up_to level trail.entries) ≡ len → AreInStep w store trail → AreInStep new store (record { entries = up_to level trail.entries; level = level; room = trail.room })
 step_back w new store trail level len links keys less within which low is step = record {

@@ -22,8 +22,8 @@ use Rattle.ms_watch.specs.Links.{Links, HasFront, HaveLists, relinked, swapped}
 use Rattle.ms_watch.specs.Watches.{Watching, pending, list_of, state_in, is_attached, lits_at, HasKey, HasWatch, HasFalse, IsQuiet, IsWatchedBy, AreWatched, IsGuarded, AreKept, AreInStep}
 use Rattle.ms_watch.specs.Walks.{merged, pending_in, WatchesLit, AreFaced, IsPassing, IsWalking}
 use Rattle.ms_watch.proofs.Linked.{front_is, none_is, have_relinked, have_swapped, flip, flip_one, flip_other, flip_neither}
-use Rattle.ms_watch.proofs.Fronts.{up_to_append, up_to_all}
-use Rattle.ms_watch.proofs.Kept.{guarded_mapped}
+use Rattle.ms_watch.specs.Fronts.{up_to_append, up_to_all}
+use Rattle.ms_watch.specs.Kept.{guarded_mapped}
 use Rattle.ms_watch.proofs.Moved.{Contains-first, merged_pending, has_key, moved, merged_at, merged_else, pending_moved, there_moved, kept_moved}
 use Rattle.ms_watch.proofs.Passing.{keep_or_first}
 use Rattle.ms_watch.proofs.Pending.{pending_is}

@@ -11,7 +11,7 @@ use Rattle.ms_watch.specs.declared.state.State.TheVariants.{Loose, Watched}
 use Rattle.ms_watch.specs.Links.{Links, relinked}
 use Rattle.ms_watch.specs.Watches.{Watching, list_of, state_in, pending, free, loose}
 use Rattle.ms_watch.specs.Walks.{IsPassing, IsOther, WatchesLit, pending_in}
-use Rattle.ms_watch.proofs.Kept.{with_lit}
+use Rattle.ms_watch.specs.Kept.{with_lit}
 use Rattle.ms_watch.proofs.Passing.{other_attached}
 use Rattle.ms_watch.proofs.Fates.{passing_assigned, passing_stays, passing_unwatched, passing_loosens, passing_moves, pair_there, state_set, state_else, relinked_seen}
 use Rattle.ms_watch.proofs.Forced.{forced_one, assigned_holds}

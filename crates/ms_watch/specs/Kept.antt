@@ -18,7 +18,7 @@ use Rattle.ms_watch.specs.declared.lists.Watch.{Watch}
 use Rattle.ms_watch.specs.declared.state.State.{State}
 use Rattle.ms_watch.specs.declared.state.State.TheVariants.{Detached, Loose, Watched}
 use Rattle.ms_watch.specs.Watches.{loose, list_of, state_in, is_attached, lits_at, HasKey, HasWatch, HasFalse, IsQuiet, IsWatchedBy, AreWatched, IsGuarded, AreLeveled, AreKept}
-use Rattle.ms_watch.proofs.Fronts.{false_more, up_to_above, up_to_front, up_to_low, quiet_back}
+use Rattle.ms_watch.specs.Fronts.{false_more, up_to_above, up_to_front, up_to_low, quiet_back}
 
 pub by_mapped : (lists new_lists : ℕ → List Watch) (entries new_entries : List Entry) (seen new_seen key : ℕ) (lits : Nogood) (lit : Lit) → (HasWatch (lists (list_of lit)) key lits → HasWatch (new_lists (list_of lit)) key lits) → (IsQuiet entries seen lits lit → IsQuiet new_entries new_seen lits lit) → IsWatchedBy lists entries seen key lits lit → IsWatchedBy new_lists new_entries new_seen key lits lit
 by_mapped lists new_lists entries new_entries seen new_seen key lits lit listed quiet by = record {

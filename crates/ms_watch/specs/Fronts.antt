@@ -12,7 +12,7 @@ use Rattle.ms_lits.specs.Assignment.{Assignment, HoldsIn, entry_of, value_in, up
 use Rattle.ms_lits.proofs.Entries.{some_entry, entry_here, entry_behind}
 use Rattle.ms_refutation.proofs.Laws.{filter_twice}
 use Rattle.ms_watch.specs.Watches.{HasFalse, IsQuiet}
-use Rattle.ms_watch.proofs.Levels.{HasEntry, holds_entry}
+use Rattle.ms_watch.specs.Levels.{HasEntry, holds_entry}
 
 entry_more : (xs ys : List Entry) (var : ℕ) (e : Entry) → entry_of xs var ≡ Some e → entry_of (xs ++ ys) var ≡ Some e
 entry_more [] ys var e is = cc
