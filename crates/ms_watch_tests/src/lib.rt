@@ -1,5 +1,0 @@
-// Tests of propagation by watches.
-#![tactic(auto)]
-
-#[cfg(test)]
-mod equal;
