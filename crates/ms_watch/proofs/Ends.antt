@@ -56,7 +56,7 @@ calm_watched lists trail seen key lits first second all present g =
     let whole : up_to trail.level es ≡ es = up_to_all trail.level es (λ k d lt. present k d lt) in
     let every : take seen es ≡ es = take_all seen es (omega arith) in
     let told : (l : Lit) → IsQuiet es seen lits l → HoldsIn es l → IsCalmIn es lits = λ l quiet holds.
-        calm_false es lits (subst (λ (xs : List Entry). HasFalse xs lits) whole (quiet trail.level (subst (λ (xs : List Entry). HoldsIn xs l) (sym (ap (up_to trail.level) every ∙ whole)) holds))) in
+    calm_false es lits (subst (λ (xs : List Entry). HasFalse xs lits) whole (quiet trail.level (subst (λ (xs : List Entry). HoldsIn xs l) (sym (ap (up_to trail.level) every ∙ whole)) holds))) in
     elim (holds_or (value_in es first.var) first.truth) [
       | inl holds ↦ told first g.by_first.quiet holds
       | inr not_first ↦ elim (holds_or (value_in es second.var) second.truth) [

@@ -86,14 +86,14 @@ module _ (lit : Lit) (w : Watching) (store : Store) (trail : Assignment) (watch 
         same = ap is_attached (still watch.key);
       })
       (λ rest is lits found. subst (IsGuarded (merged (moved p.lists pending from x rest) from) trail w.seen watch.key lits) (sym (still watch.key))
-        (guarded_mapped (merged p.lists from) (merged (moved p.lists pending from x rest) from) trail trail w.seen w.seen watch.key lits (state_in w.keys watch.key) (omega arith)
-          (λ list le has. elim (keep_or_first p.lists from from watch x rest is (λ e. absurd (omega arith)) list has.watch le has.contained) [
-            | inl kept ↦ has_key (merged (moved p.lists pending from x rest) from list) watch.key has.watch kept has.same
-            | inr gone ↦ has_key (merged (moved p.lists pending from x rest) from list) watch.key x
-                (subst (λ (n : ℕ). Contains (merged (moved p.lists pending from x rest) from n) x) (sym gone.0) (there_moved p.lists from from watch x rest is (λ e. absurd (omega arith)))) of_key
-          ])
-          (λ l has. listed_stays p.lists from from watch x rest is (λ e. absurd (omega arith)) watch.key lits l refl of_key (λ same. belongs lits found) has)
-          (λ l quiet. quiet) (p.kept.guarded watch.key lits found)))
+      (guarded_mapped (merged p.lists from) (merged (moved p.lists pending from x rest) from) trail trail w.seen w.seen watch.key lits (state_in w.keys watch.key) (omega arith)
+      (λ list le has. elim (keep_or_first p.lists from from watch x rest is (λ e. absurd (omega arith)) list has.watch le has.contained) [
+        | inl kept ↦ has_key (merged (moved p.lists pending from x rest) from list) watch.key has.watch kept has.same
+        | inr gone ↦ has_key (merged (moved p.lists pending from x rest) from list) watch.key x
+            (subst (λ (n : ℕ). Contains (merged (moved p.lists pending from x rest) from n) x) (sym gone.0) (there_moved p.lists from from watch x rest is (λ e. absurd (omega arith)))) of_key
+      ])
+      (λ l has. listed_stays p.lists from from watch x rest is (λ e. absurd (omega arith)) watch.key lits l refl of_key (λ same. belongs lits found) has)
+      (λ l quiet. quiet) (p.kept.guarded watch.key lits found)))
       (λ rest is lits found watches. elim (p.faced watch.key lits found (subst (λ (s : State). WatchesLit s lit) (still watch.key) watches)) [
         | inl has ↦ elim (Contains-cases watch rest has.watch (subst (λ (ws : List Watch). Contains ws has.watch) is has.contained)) [
           | inl first ↦ inr (record { lit = x.blocker; contained = belongs lits found (subst (λ (y : Watch). Contains lits y.blocker) (sym first) has.blocker); opposite = opposite })
@@ -117,7 +117,7 @@ module _ (lit : Lit) (w : Watching) (store : Store) (trail : Assignment) (watch 
         same = ap is_attached (still watch.key);
       })
       (λ rest is lits found. subst (IsGuarded (merged (moved p.lists pending free watch rest) from) trail w.seen watch.key lits) (sym (still watch.key))
-        (guarded_apart p.lists lit free watch watch rest is (λ e. absurd (omega arith)) trail w.seen watch.key lits (state_in w.keys watch.key) none (p.kept.guarded watch.key lits found)))
+      (guarded_apart p.lists lit free watch watch rest is (λ e. absurd (omega arith)) trail w.seen watch.key lits (state_in w.keys watch.key) none (p.kept.guarded watch.key lits found)))
       (λ rest is lits found watches. absurd (none (subst (λ (s : State). WatchesLit s lit) (still watch.key) watches)))
 
   pub passing_loosens : (new : Watching) (other : Lit) → new.links ≡ relinked w.links pending loose watch → state_in new.keys watch.key ≡ Loose → ((k : ℕ) → (k ≡ watch.key → ⊥) → state_in new.keys k ≡ state_in w.keys k) → new.seen ≡ w.seen → from < length w.links.heads → IsOther (state_in w.keys watch.key) lit other → IsPassing lit new store trail × (pending_in new.links < pending_in w.links)
@@ -134,7 +134,7 @@ module _ (lit : Lit) (w : Watching) (store : Store) (trail : Assignment) (watch 
         same = ap is_attached becomes ∙ sym (other_attached (state_in w.keys watch.key) lit other is_other);
       })
       (λ rest is lits found. subst (IsGuarded (merged (moved p.lists pending loose watch rest) from) trail w.seen watch.key lits) (sym becomes)
-        (has_key (merged (moved p.lists pending loose watch rest) from loose) watch.key watch (there_moved p.lists from loose watch watch rest is (λ e. absurd (omega arith))) refl))
+      (has_key (merged (moved p.lists pending loose watch rest) from loose) watch.key watch (there_moved p.lists from loose watch watch rest is (λ e. absurd (omega arith))) refl))
       (λ rest is lits found watches. absurd (subst (λ (s : State). WatchesLit s lit) becomes watches))
 
   pub passing_moves : (new : Watching) (x : Watch) (next other : Lit) → new.links ≡ relinked w.links pending (list_of next) x → state_in new.keys watch.key ≡ Watched next other → ((k : ℕ) → (k ≡ watch.key → ⊥) → state_in new.keys k ≡ state_in w.keys k) → new.seen ≡ w.seen → from < length w.links.heads → x ≡ record { key = watch.key; blocker = other } → IsOther (state_in w.keys watch.key) lit other → IsNext store trail.entries watch.key other next → IsPassing lit new store trail × (pending_in new.links < pending_in w.links)
@@ -153,24 +153,24 @@ module _ (lit : Lit) (w : Watching) (store : Store) (trail : Assignment) (watch 
         same = ap is_attached watched ∙ sym attached;
       })
       (λ rest is lits found.
-        let lists : ℕ → List Watch = merged (moved p.lists pending (list_of next) x rest) from in
-        let pair = pair_there other lits found is_other in
-        subst (IsGuarded lists trail w.seen watch.key lits) (sym watched) (record {
-          within = pair.within;
-          differ = n.differ;
-          by_first = record {
-            contained = next_in lits found;
-            listed = record {
-              watch = x;
-              contained = there_moved p.lists from (list_of next) watch x rest is (λ e. absurd (omega arith));
-              same = ap (λ (y : Watch). y.key) made;
-              blocker = subst (λ (y : Watch). Contains lits y.blocker) (sym made) pair.by_other.contained;
-            };
-            quiet = quiet_untrue trail.entries w.seen lits next p.kept.leveled.rising n.untrue;
+      let lists : ℕ → List Watch = merged (moved p.lists pending (list_of next) x rest) from in
+      let pair = pair_there other lits found is_other in
+      subst (IsGuarded lists trail w.seen watch.key lits) (sym watched) (record {
+        within = pair.within;
+        differ = n.differ;
+        by_first = record {
+          contained = next_in lits found;
+          listed = record {
+            watch = x;
+            contained = there_moved p.lists from (list_of next) watch x rest is (λ e. absurd (omega arith));
+            same = ap (λ (y : Watch). y.key) made;
+            blocker = subst (λ (y : Watch). Contains lits y.blocker) (sym made) pair.by_other.contained;
           };
-          by_second = by_mapped (merged p.lists from) lists trail.entries trail.entries w.seen w.seen watch.key lits other
-              (listed_apart p.lists from (list_of next) watch x rest is (λ e. absurd (omega arith)) watch.key lits other (λ e. pair.differ (sym (list_of_same other lit e)))) (λ quiet. quiet) pair.by_other;
-        }))
+          quiet = quiet_untrue trail.entries w.seen lits next p.kept.leveled.rising n.untrue;
+        };
+        by_second = by_mapped (merged p.lists from) lists trail.entries trail.entries w.seen w.seen watch.key lits other
+            (listed_apart p.lists from (list_of next) watch x rest is (λ e. absurd (omega arith)) watch.key lits other (λ e. pair.differ (sym (list_of_same other lit e)))) (λ quiet. quiet) pair.by_other;
+      }))
       (λ rest is lits found watches. elim (subst (λ (s : State). WatchesLit s lit) watched watches) [
         | inl same ↦ absurd (n.untrue (subst (HoldsIn trail.entries) (sym same) p.holds))
         | inr same ↦ absurd ((pair_there other lits found is_other).differ (sym same))

@@ -22,10 +22,13 @@ links_same : (old new : List Node) (start : ℕ) (places : List ℕ) → length 
 links_same old new start [] longer same links = links
 links_same old new start (place ∷ more) longer same links =
     let here : get_or new place no_node ≡ get_or old place no_node = All-head (λ (p : ℕ). p < length old → get_or new p no_node ≡ get_or old p no_node) place more same links.1 in
-    let lt : place < length old = links.1 in
-    (links.0, (omega arith), links.2,
+    let lt : place < length old = links.1 in (
+      links.0,
+      (omega arith),
+      links.2,
       subst (λ (n : ℕ). LinksTo new n more) (sym (ap (λ (x : Node). x.next) here))
-      (links_same old new (get_or old place no_node).next more longer (All-tail (λ (p : ℕ). p < length old → get_or new p no_node ≡ get_or old p no_node) place more same) links.3))
+          (links_same old new (get_or old place no_node).next more longer (All-tail (λ (p : ℕ). p < length old → get_or new p no_node ≡ get_or old p no_node) place more same) links.3),
+    )
 
 -- places in the nodes
 pub links_within : (nodes : List Node) (start : ℕ) (places : List ℕ) → LinksTo nodes start places → All (λ place. place < length nodes) places
@@ -82,9 +85,9 @@ have_relinked links lists from to first watch rest have is differ from_there to_
     let mine : have.owner s.place ≡ from = All-head (λ (p : ℕ). have.owner p ≡ from) s.place s.more (subst (λ (ps : List ℕ). All (λ p. have.owner p ≡ from) ps) s.same (have.owned from)) in
     let apart : (list : ℕ) → (list ≡ from → ⊥) → All (λ p. p ≡ s.place → ⊥) (have.chains list) = λ list o. All-weaker (λ (p : ℕ). have.owner p ≡ list) (λ (p : ℕ). p ≡ s.place → ⊥) (λ p own same. o (sym own ∙ ap have.owner same ∙ mine)) (have.chains list) (have.owned list) in
     let kept : (start : ℕ) (places : List ℕ) → All (λ p. p ≡ s.place → ⊥) places → LinksTo links.nodes start places → LinksTo new.nodes start places = λ start places o l.
-        links_same links.nodes new.nodes start places longer (All-weaker (λ (p : ℕ). p ≡ s.place → ⊥) (λ (p : ℕ). p < length links.nodes → get_or new.nodes p no_node ≡ get_or links.nodes p no_node) (λ p ne lt. other_node p ne) places o) l in
+    links_same links.nodes new.nodes start places longer (All-weaker (λ (p : ℕ). p ≡ s.place → ⊥) (λ (p : ℕ). p < length links.nodes → get_or new.nodes p no_node ≡ get_or links.nodes p no_node) (λ p ne lt. other_node p ne) places o) l in
     let seen : (places : List ℕ) → All (λ p. p ≡ s.place → ⊥) places → map (watch_at new.nodes) places ≡ map (watch_at links.nodes) places = λ places o.
-        map_same links.nodes new.nodes places (All-weaker (λ (p : ℕ). p ≡ s.place → ⊥) (λ (p : ℕ). get_or new.nodes p no_node ≡ get_or links.nodes p no_node) other_node places o) in
+    map_same links.nodes new.nodes places (All-weaker (λ (p : ℕ). p ≡ s.place → ⊥) (λ (p : ℕ). get_or new.nodes p no_node ≡ get_or links.nodes p no_node) other_node places o) in
     let chains : ℕ → List ℕ = put (put have.chains from s.more) to (s.place ∷ have.chains to) in
     let owner : ℕ → ℕ = put have.owner s.place to in
     let to_apart : All (λ p. p ≡ s.place → ⊥) (have.chains to) = apart to (λ e. differ (sym e)) in
@@ -96,10 +99,13 @@ have_relinked links lists from to first watch rest have is differ from_there to_
       linked = λ list. elim (cases_eq list to) [
         | inl here ↦ (
             let h : get_or new.heads list 0 ≡ s.place + 1 = ap (λ n. get_or new.heads n 0) here ∙ get_or-set_same less to head 0 (omega (arith, length-set links.heads from next)) ∙ at in
-            subst (LinksTo new.nodes (get_or new.heads list 0)) (sym (put_here (put have.chains from s.more) to (s.place ∷ have.chains to) list here))
-            (h, (omega arith), to_apart,
+            subst (LinksTo new.nodes (get_or new.heads list 0)) (sym (put_here (put have.chains from s.more) to (s.place ∷ have.chains to) list here)) (
+              h,
+              (omega arith),
+              to_apart,
               subst (λ (n : ℕ). LinksTo new.nodes n (have.chains to)) (sym (get_or-set_other links.heads from to next 0 (λ e. differ (sym e))) ∙ sym (ap (λ (x : Node). x.next) this_node))
-              (kept (get_or links.heads to 0) (have.chains to) to_apart (have.linked to))))
+                  (kept (get_or links.heads to 0) (have.chains to) to_apart (have.linked to)),
+            ))
         | inr not_to ↦ elim (cases_eq list from) [
           | inl here ↦ (
               let h : get_or new.heads list 0 ≡ next = ap (λ n. get_or new.heads n 0) here ∙ get_or-set_other less to from head 0 differ ∙ get_or-set_same links.heads from next 0 from_there in
@@ -115,7 +121,7 @@ have_relinked links lists from to first watch rest have is differ from_there to_
       owned = λ list. elim (cases_eq list to) [
         | inl here ↦ subst (λ (ps : List ℕ). All (λ p. owner p ≡ list) ps) (sym (put_here (put have.chains from s.more) to (s.place ∷ have.chains to) list here))
             (All-cons (λ (p : ℕ). owner p ≡ list) s.place (have.chains to) (put_here have.owner s.place to s.place refl ∙ sym here)
-              (owned_still list (have.chains to) to_apart (subst (λ (n : ℕ). All (λ p. have.owner p ≡ n) (have.chains to)) (sym here) (have.owned to))))
+            (owned_still list (have.chains to) to_apart (subst (λ (n : ℕ). All (λ p. have.owner p ≡ n) (have.chains to)) (sym here) (have.owned to))))
         | inr not_to ↦ elim (cases_eq list from) [
           | inl here ↦ subst (λ (ps : List ℕ). All (λ p. owner p ≡ list) ps) (sym (put_other (put have.chains from s.more) to (s.place ∷ have.chains to) list not_to ∙ put_here have.chains from s.more list here))
               (owned_still list s.more s.links.2 (subst (λ (n : ℕ). All (λ p. have.owner p ≡ n) s.more) (sym here) more_owned))

@@ -52,9 +52,9 @@ kept_changed lists new count keys new_keys seen store trail key kept others same
         | inl at ↦ subst (λ (n : ℕ). IsGuarded new trail seen n lits (state_in new_keys n)) (sym at) (guard lits (ap (lits_at store) (sym at) ∙ found))
         | inr other ↦ subst (IsGuarded new trail seen k lits) (sym (others k other))
             (guarded_mapped lists new trail trail seen seen k lits (state_in keys k) (omega arith)
-              (λ list le has. has_key (new list) k has.watch (keep list has.watch le (λ e. other (sym has.same ∙ e)) has.contained) has.same)
-              (λ l has. record { watch = has.watch; contained = keep (list_of l) has.watch (omega arith) (λ e. other (sym has.same ∙ e)) has.contained; same = has.same; blocker = has.blocker })
-              (λ l quiet. quiet) (kept.guarded k lits found))
+            (λ list le has. has_key (new list) k has.watch (keep list has.watch le (λ e. other (sym has.same ∙ e)) has.contained) has.same)
+            (λ l has. record { watch = has.watch; contained = keep (list_of l) has.watch (omega arith) (λ e. other (sym has.same ∙ e)) has.contained; same = has.same; blocker = has.blocker })
+            (λ l quiet. quiet) (kept.guarded k lits found))
       ];
     }
 

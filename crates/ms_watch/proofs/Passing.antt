@@ -44,9 +44,9 @@ quiet_untrue es seen lits lit rising untrue level holds =
     let split : es ≡ front ++ drop seen es = sym (take-append-drop seen es) in
     let n : ℕ = length (up_to level front) in
     let rises : Rises front = λ i k d le lt.
-        let short : length front ≤ seen = omega (arith, length-take seen es) in
-        let within : length front ≤ length es = omega (arith, length-take seen es) in
-        omega (arith, ap (λ (e : Entry). e.level) (get_or-take seen es i d (omega arith)), ap (λ (e : Entry). e.level) (get_or-take seen es k d (omega arith)), rising i k d le (omega arith)) in
+    let short : length front ≤ seen = omega (arith, length-take seen es) in
+    let within : length front ≤ length es = omega (arith, length-take seen es) in
+    omega (arith, ap (λ (e : Entry). e.level) (get_or-take seen es i d (omega arith)), ap (λ (e : Entry). e.level) (get_or-take seen es k d (omega arith)), rising i k d le (omega arith)) in
     let inner : front ≡ up_to level front ++ drop n front = sym (take-append-drop n front) ∙ ap (λ (xs : List Entry). xs ++ drop n front) (sym (up_to_front level front rises)) in
     absurd (untrue (subst (λ (xs : List Entry). HoldsIn xs lit) (sym split) (holds_more front (drop seen es) lit (subst (λ (xs : List Entry). HoldsIn xs lit) (sym inner) (holds_more (up_to level front) (drop n front) lit holds)))))
 
@@ -66,11 +66,11 @@ module _ (lists : ℕ → List Watch) (from to : ℕ) (first x : Watch) (rest : 
   listed_stays key lits lit same of_key blocker has = elim (keep_or_first (list_of lit) has.watch (omega arith) has.contained) [
     | inl kept ↦ record { watch = has.watch; contained = kept; same = has.same; blocker = has.blocker }
     | inr gone ↦ record {
-        watch = x;
-        contained = subst (λ (n : ℕ). Contains (merged (moved lists pending to x rest) from n) x) (sym (gone.0 ∙ same)) (there_moved lists from to first x rest is to_apart);
-        same = of_key;
-        blocker = blocker (ap (λ (w : Watch). w.key) gone.1 ∙ has.same) (subst (λ (w : Watch). Contains lits w.blocker) (sym gone.1) has.blocker);
-      }
+      watch = x;
+      contained = subst (λ (n : ℕ). Contains (merged (moved lists pending to x rest) from n) x) (sym (gone.0 ∙ same)) (there_moved lists from to first x rest is to_apart);
+      same = of_key;
+      blocker = blocker (ap (λ (w : Watch). w.key) gone.1 ∙ has.same) (subst (λ (w : Watch). Contains lits w.blocker) (sym gone.1) has.blocker);
+    }
   ]
 
   -- other lists keep their watches
@@ -111,17 +111,17 @@ pair_from lists trail seen key lits lit other Detached is g = absurd is
 pair_from lists trail seen key lits lit other Loose is g = absurd is
 pair_from lists trail seen key lits lit other (Watched a b) is g = elim is [
   | inl h ↦ record {
-      within = g.within;
-      differ = λ e. g.differ (h.0 ∙ e ∙ sym h.1);
-      by_lit = subst (IsWatchedBy lists trail.entries seen key lits) h.0 g.by_first;
-      by_other = subst (IsWatchedBy lists trail.entries seen key lits) h.1 g.by_second;
-    }
+    within = g.within;
+    differ = λ e. g.differ (h.0 ∙ e ∙ sym h.1);
+    by_lit = subst (IsWatchedBy lists trail.entries seen key lits) h.0 g.by_first;
+    by_other = subst (IsWatchedBy lists trail.entries seen key lits) h.1 g.by_second;
+  }
   | inr h ↦ record {
-      within = g.within;
-      differ = λ e. g.differ (h.1 ∙ sym e ∙ sym h.0);
-      by_lit = subst (IsWatchedBy lists trail.entries seen key lits) h.0 g.by_second;
-      by_other = subst (IsWatchedBy lists trail.entries seen key lits) h.1 g.by_first;
-    }
+    within = g.within;
+    differ = λ e. g.differ (h.1 ∙ sym e ∙ sym h.0);
+    by_lit = subst (IsWatchedBy lists trail.entries seen key lits) h.0 g.by_second;
+    by_other = subst (IsWatchedBy lists trail.entries seen key lits) h.1 g.by_first;
+  }
 ]
 
 pub other_attached : (state : State) (lit other : Lit) → IsOther state lit other → is_attached state ≡ true
@@ -157,26 +157,28 @@ module _ (lit : Lit) (w new : Watching) (store : Store) (trail : Assignment) (wa
       let lists : ℕ → List Watch = moved p.lists pending to x rest in
       let now : lists pending ≡ rest = pending_moved p.lists (list_of lit) to watch x rest f.1 goes.not_pending in
       let have : HaveLists new.links lists = subst (λ (l : Links). HaveLists l lists) (sym goes.links)
-          (have_relinked w.links p.lists pending to watch x rest p.have f.1 (λ e. goes.not_pending (sym e)) (omega (arith, goes.lit_there)) goes.to_there) in
+      (have_relinked w.links p.lists pending to watch x rest p.have f.1 (λ e. goes.not_pending (sym e)) (omega (arith, goes.lit_there)) goes.to_there) in
       let heads : length new.links.heads ≡ length w.links.heads = ap (λ (l : Links). length l.heads) goes.links
-          ∙ length-set (set w.links.heads pending _) to _ ∙ length-set w.links.heads pending _ in
-      (record {
-        lists = lists;
-        have = have;
-        kept = subst (λ (n : ℕ). AreKept (merged lists (list_of lit)) n new.keys new.seen store trail) (sym heads)
-            (subst (λ (n : ℕ). AreKept (merged lists (list_of lit)) (length w.links.heads) new.keys n store trail) (sym goes.seen)
-            (kept_moved p.lists (list_of lit) to watch x rest f.1 goes.not_pending (length w.links.heads) w.keys new.keys w.seen store trail p.kept
+      ∙ length-set (set w.links.heads pending _) to _ ∙ length-set w.links.heads pending _ in (
+        record {
+          lists = lists;
+          have = have;
+          kept = subst (λ (n : ℕ). AreKept (merged lists (list_of lit)) n new.keys new.seen store trail) (sym heads)
+              (subst (λ (n : ℕ). AreKept (merged lists (list_of lit)) (length w.links.heads) new.keys n store trail) (sym goes.seen)
+              (kept_moved p.lists (list_of lit) to watch x rest f.1 goes.not_pending (length w.links.heads) w.keys new.keys w.seen store trail p.kept
               goes.small goes.others goes.same (guard rest f.1)));
-        holds = p.holds;
-        faced = λ key lits found watches. subst (λ (ws : List Watch). HasWatch ws key lits ⊎ HasFalse trail.entries lits) (sym now) (elim (cases_eq key watch.key) [
-          | inl at ↦ subst (λ (n : ℕ). HasWatch rest n lits ⊎ HasFalse trail.entries lits) (sym at)
-              (face rest f.1 lits (ap (lits_at store) (sym at) ∙ found) (subst (λ (n : ℕ). WatchesLit (state_in new.keys n) lit) at watches))
-          | inr other ↦ elim (p.faced key lits found (subst (λ (s : State). WatchesLit s lit) (goes.others key other) watches)) [
-            | inl has ↦ elim (Contains-cases watch rest has.watch (subst (λ (ws : List Watch). Contains ws has.watch) f.1 has.contained)) [
-              | inl first ↦ absurd (other (sym has.same ∙ sym (ap (λ (y : Watch). y.key) first)))
-              | inr behind ↦ inl (record { watch = has.watch; contained = behind; same = has.same; blocker = has.blocker })
+          holds = p.holds;
+          faced = λ key lits found watches. subst (λ (ws : List Watch). HasWatch ws key lits ⊎ HasFalse trail.entries lits) (sym now) (elim (cases_eq key watch.key) [
+            | inl at ↦ subst (λ (n : ℕ). HasWatch rest n lits ⊎ HasFalse trail.entries lits) (sym at)
+                (face rest f.1 lits (ap (lits_at store) (sym at) ∙ found) (subst (λ (n : ℕ). WatchesLit (state_in new.keys n) lit) at watches))
+            | inr other ↦ elim (p.faced key lits found (subst (λ (s : State). WatchesLit s lit) (goes.others key other) watches)) [
+              | inl has ↦ elim (Contains-cases watch rest has.watch (subst (λ (ws : List Watch). Contains ws has.watch) f.1 has.contained)) [
+                | inl first ↦ absurd (other (sym has.same ∙ sym (ap (λ (y : Watch). y.key) first)))
+                | inr behind ↦ inl (record { watch = has.watch; contained = behind; same = has.same; blocker = has.blocker })
+              ]
+              | inr false_one ↦ inr false_one
             ]
-            | inr false_one ↦ inr false_one
-          ]
-        ]);
-      }, (let less : length (p.lists pending) ≡ 1 + length rest = omega (arith, ap length f.1) in omega (arith, pending_is new.links lists have, pending_is w.links p.lists p.have, ap length now, less)))
+          ]);
+        },
+        (let less : length (p.lists pending) ≡ 1 + length rest = omega (arith, ap length f.1) in omega (arith, pending_is new.links lists have, pending_is w.links p.lists p.have, ap length now, less)),
+      )

@@ -24,9 +24,10 @@ any_all P (p ∷ ps) q all is = elim (or_cases (eqb q p) (list_any (eqb q) ps) i
 links_distinct : (nodes : List Node) (start : ℕ) (places : List ℕ) → LinksTo nodes start places → IsDistinct eqb places
 unfolding IsDistinct
 links_distinct nodes start [] links = tt
-links_distinct nodes start (p ∷ ps) links =
-    (recursion_from_All (λ y. eqb p y ≡ false) ps (All-weaker (λ (y : ℕ). y ≡ p → ⊥) (λ (y : ℕ). eqb p y ≡ false) (λ y other. ne_eqb p y (λ e. other (sym e))) ps links.2),
-      links_distinct nodes (get_or nodes p no_node).next ps links.3)
+links_distinct nodes start (p ∷ ps) links = (
+  recursion_from_All (λ y. eqb p y ≡ false) ps (All-weaker (λ (y : ℕ). y ≡ p → ⊥) (λ (y : ℕ). eqb p y ≡ false) (λ y other. ne_eqb p y (λ e. other (sym e))) ps links.2),
+  links_distinct nodes (get_or nodes p no_node).next ps links.3,
+)
 
 links_few : (nodes : List Node) (start : ℕ) (places : List ℕ) → LinksTo nodes start places → length places ≤ length nodes
 links_few nodes start places links = length-le_from_distinct_below places (length nodes) (links_distinct nodes start places links) (λ q is. any_all (λ (p : ℕ). p < length nodes) places q (links_within nodes start places links) is)

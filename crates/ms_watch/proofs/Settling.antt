@@ -124,7 +124,7 @@ settling_frees before w new store trail watch s front is there not_loose =
       kept = kept_as (merged lists loose) w new store trail m.heads (ap (λ (u : Watching). u.seen) is)
           (subst (λ (ks : List State). AreKept (merged lists loose) (length w.links.heads) ks w.seen store trail) (sym keys)
           (kept_moved s.lists loose free watch watch m.rest m.is apart (length w.links.heads) w.keys w.keys w.seen store trail s.kept (λ three. absurd (omega arith)) (λ k other. refl) refl
-            (λ lits found. apart_guard s.lists watch m.rest m.is trail w.seen watch.key lits (state_in w.keys watch.key) not_loose (s.kept.guarded watch.key lits found))));
+          (λ lits found. apart_guard s.lists watch m.rest m.is trail w.seen watch.key lits (state_in w.keys watch.key) not_loose (s.kept.guarded watch.key lits found))));
       longer = s.longer;
       calm = λ same key has state. s.calm same key
           (subst (λ (ws : List Watch). HasKey ws key) (moved_else s.lists pending free watch m.rest loose (λ e. absurd (omega arith)) (λ e. absurd (omega arith))) has)
@@ -149,7 +149,7 @@ settling_watches before w new store trail watch spare first second lits s front 
     let lists : ℕ → List Watch = moved middle free (list_of second) two f.0 in
     let second_there : list_of second < length mid.links.heads = subst (λ n. list_of second < n) (sym m.heads) (in_range second open_.has_second) in
     let have : HaveLists new.links lists = subst (λ (u : Watching). HaveLists u.links lists) (sym is)
-        (have_relinked mid.links middle free (list_of second) spare two f.0 m.have free_now (λ e. absurd (omega arith)) (omega arith) second_there) in
+    (have_relinked mid.links middle free (list_of second) spare two f.0 m.have free_now (λ e. absurd (omega arith)) (omega arith) second_there) in
     let heads : length new.links.heads ≡ length w.links.heads = relinked_heads mid.links new.links free (list_of second) two (ap (λ (u : Watching). u.links) is) ∙ m.heads in
     let first_apart : list_of first ≡ pending → ⊥ = λ e. absurd (omega arith) in
     let on : (n : ℕ) (x : Watch) → 2 ≤ n → Contains (merged middle loose n) x → Contains (merged lists loose n) x = λ n x le has. elim (merged_out middle loose n x has) [
@@ -169,39 +169,39 @@ settling_watches before w new store trail watch spare first second lits s front 
       have = have;
       kept = kept_as (merged lists loose) w new store trail heads seen
           (kept_changed (merged s.lists loose) (merged lists loose) (length w.links.heads) w.keys new.keys w.seen store trail key s.kept
-            (state_else w.keys new.keys key (Watched first second) keys)
-            (ap is_attached (state_set w.keys new.keys key (Watched first second) attached keys) ∙ sym attached)
-            (λ n x le other has. on n x le (keep_moved s.lists loose (list_of first) watch one m.rest m.is first_apart n x le other has))
-            (λ n x le has. elim (back n x le has) [
-              | inl old ↦ elim (only_moved s.lists loose (list_of first) watch one m.rest m.is first_apart n x (omega arith) old) [
-                | inl was ↦ inl was
-                | inr h ↦ inr (subst (λ (y : Watch). y.blocker.var < trail.room) h.1 (small second open_.has_second))
-              ]
-              | inr h ↦ inr (subst (λ (y : Watch). y.blocker.var < trail.room) h (small first open_.has_first))
-            ])
-            (λ ls is_ls.
-              let same : lits ≡ ls = lits_one lits ls (lits_at store key) found is_ls in
-              subst (λ (n : Nogood). IsGuarded (merged lists loose) trail w.seen key n (state_in new.keys key)) same
-              (subst (IsGuarded (merged lists loose) trail w.seen key lits) (sym (state_set w.keys new.keys key (Watched first second) attached keys)) (record {
-                within = within;
-                differ = open_.differ;
-                by_first = record {
-                  contained = open_.has_first;
-                  listed = record { watch = one; contained = on (list_of first) one (omega arith) (there_moved s.lists loose (list_of first) watch one m.rest m.is first_apart); same = refl; blocker = open_.has_second };
-                  quiet = quiet_untrue trail.entries w.seen lits first s.kept.leveled.rising open_.first_untrue;
-                };
-                by_second = record {
-                  contained = open_.has_second;
-                  listed = record { watch = two; contained = merged_in lists loose (list_of second) two (moved_there middle free (list_of second) two f.0); same = refl; blocker = open_.has_first };
-                  quiet = quiet_untrue trail.entries w.seen lits second s.kept.leveled.rising open_.second_untrue;
-                };
-              }))));
+          (state_else w.keys new.keys key (Watched first second) keys)
+          (ap is_attached (state_set w.keys new.keys key (Watched first second) attached keys) ∙ sym attached)
+          (λ n x le other has. on n x le (keep_moved s.lists loose (list_of first) watch one m.rest m.is first_apart n x le other has))
+          (λ n x le has. elim (back n x le has) [
+            | inl old ↦ elim (only_moved s.lists loose (list_of first) watch one m.rest m.is first_apart n x (omega arith) old) [
+              | inl was ↦ inl was
+              | inr h ↦ inr (subst (λ (y : Watch). y.blocker.var < trail.room) h.1 (small second open_.has_second))
+            ]
+            | inr h ↦ inr (subst (λ (y : Watch). y.blocker.var < trail.room) h (small first open_.has_first))
+          ])
+          (λ ls is_ls.
+          let same : lits ≡ ls = lits_one lits ls (lits_at store key) found is_ls in
+          subst (λ (n : Nogood). IsGuarded (merged lists loose) trail w.seen key n (state_in new.keys key)) same
+          (subst (IsGuarded (merged lists loose) trail w.seen key lits) (sym (state_set w.keys new.keys key (Watched first second) attached keys)) (record {
+            within = within;
+            differ = open_.differ;
+            by_first = record {
+              contained = open_.has_first;
+              listed = record { watch = one; contained = on (list_of first) one (omega arith) (there_moved s.lists loose (list_of first) watch one m.rest m.is first_apart); same = refl; blocker = open_.has_second };
+              quiet = quiet_untrue trail.entries w.seen lits first s.kept.leveled.rising open_.first_untrue;
+            };
+            by_second = record {
+              contained = open_.has_second;
+              listed = record { watch = two; contained = merged_in lists loose (list_of second) two (moved_there middle free (list_of second) two f.0); same = refl; blocker = open_.has_first };
+              quiet = quiet_untrue trail.entries w.seen lits second s.kept.leveled.rising open_.second_untrue;
+            };
+          }))));
       longer = s.longer;
       calm = λ same other has state. elim (cases_eq other key) [
         | inl at ↦ (let no_ : Watched first second ≡ Loose = sym (state_set w.keys new.keys key (Watched first second) attached keys) ∙ ap (state_in new.keys) (sym at) ∙ state in cc)
         | inr apart ↦ s.calm same other
             (subst (λ (ws : List Watch). HasKey ws other)
-              (moved_else middle free (list_of second) two f.0 loose (λ e. absurd (omega arith)) (λ e. absurd (omega arith)) ∙ moved_else s.lists pending (list_of first) one m.rest loose (λ e. absurd (omega arith)) (λ e. absurd (omega arith))) has)
+            (moved_else middle free (list_of second) two f.0 loose (λ e. absurd (omega arith)) (λ e. absurd (omega arith)) ∙ moved_else s.lists pending (list_of first) one m.rest loose (λ e. absurd (omega arith)) (λ e. absurd (omega arith))) has)
             (sym (state_else w.keys new.keys key (Watched first second) keys other apart) ∙ state)
       ];
     }
@@ -218,7 +218,7 @@ watching_fewer w new store trail watch spare first second p front spare_front is
     let free_now : middle free ≡ spare ∷ f.0 = moved_else p.lists pending (list_of first) one m.rest free (λ e. absurd (omega arith)) (λ e. absurd (omega arith)) ∙ f.1 in
     let lists : ℕ → List Watch = moved middle free (list_of second) two f.0 in
     let have : HaveLists new.links lists = subst (λ (u : Watching). HaveLists u.links lists) (sym is)
-        (have_relinked mid.links middle free (list_of second) spare two f.0 m.have free_now (λ e. absurd (omega arith)) (omega (arith, m.heads)) (subst (λ n. list_of second < n) (sym m.heads) second_there)) in
+    (have_relinked mid.links middle free (list_of second) spare two f.0 m.have free_now (λ e. absurd (omega arith)) (omega (arith, m.heads)) (subst (λ n. list_of second < n) (sym m.heads) second_there)) in
     let same : lists pending ≡ middle pending = moved_else middle free (list_of second) two f.0 pending (λ e. absurd (omega arith)) (λ e. absurd (omega arith)) in
     omega (arith, m.fewer, pending_is new.links lists have, pending_is mid.links middle m.have, ap length same)
 
@@ -278,13 +278,15 @@ settling_walks before w store trail s = record { lists = s.lists; have = s.have;
 -- another list has a first watch still
 pub front_other : (links new : Links) (to list : ℕ) (x w : Watch) → new ≡ relinked links pending to x → HasFront links list w → (list ≡ pending → ⊥) → (list ≡ to → ⊥) → (y : Watch) × HasFront new list y
 front_other links new to list x w is front apart other =
-    let next : ℕ = (get_or links.nodes (get_or links.heads pending 0 - 1) no_node).next in
-    (watch_at new.nodes front.place, record {
-      place = front.place;
-      head = ap (λ (l : Links). get_or l.heads list 0) is ∙ get_or-set_other (set links.heads pending next) to list (get_or links.heads pending 0) 0 other ∙ get_or-set_other links.heads pending list next 0 apart ∙ front.head;
-      within = (let le = front.within in omega (arith, le, ap (λ (l : Links). length l.nodes) is, length-set links.nodes (get_or links.heads pending 0 - 1) (record { watch = x; next = get_or (set links.heads pending next) to 0 })));
-      same = λ d. ap (λ (n : Node). n.watch) (get_or_default new.nodes front.place d no_node (let le = front.within in omega (arith, le, ap (λ (l : Links). length l.nodes) is, length-set links.nodes (get_or links.heads pending 0 - 1) (record { watch = x; next = get_or (set links.heads pending next) to 0 }))));
-    })
+    let next : ℕ = (get_or links.nodes (get_or links.heads pending 0 - 1) no_node).next in (
+      watch_at new.nodes front.place,
+      record {
+        place = front.place;
+        head = ap (λ (l : Links). get_or l.heads list 0) is ∙ get_or-set_other (set links.heads pending next) to list (get_or links.heads pending 0) 0 other ∙ get_or-set_other links.heads pending list next 0 apart ∙ front.head;
+        within = (let le = front.within in omega (arith, le, ap (λ (l : Links). length l.nodes) is, length-set links.nodes (get_or links.heads pending 0 - 1) (record { watch = x; next = get_or (set links.heads pending next) to 0 })));
+        same = λ d. ap (λ (n : Node). n.watch) (get_or_default new.nodes front.place d no_node (let le = front.within in omega (arith, le, ap (λ (l : Links). length l.nodes) is, length-set links.nodes (get_or links.heads pending 0 - 1) (record { watch = x; next = get_or (set links.heads pending next) to 0 }))));
+      },
+    )
 
 none_value : (value : Option Bool) (truth : Bool) → (value ≡ Some truth → ⊥) → (value ≡ Some (not truth) → ⊥) → value ≡ None
 none_value None truth one other = refl

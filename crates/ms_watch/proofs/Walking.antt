@@ -116,12 +116,12 @@ back_kept list before count keys seen store trail watch rest is kept le =
       | inr gone ↦ subst (λ (m : ℕ). Contains (merged lists list m) x) (sym gone.0) (subst (λ (y : Watch). Contains (merged lists list list) y) gone.1 (there_moved before list list watch watch rest is apart))
     ] in
     kept_moved before list list watch watch rest is apart count keys keys seen store trail kept
-        (λ three. blocker_there before list watch rest count keys seen store trail is kept three)
-        (λ k other. refl) refl
-        (λ lits found. guarded_mapped (merged before list) (merged lists list) trail trail seen seen watch.key lits (state_in keys watch.key) (omega arith)
-          (λ n high has. has_key (merged lists list n) watch.key has.watch (stays n has.watch high has.contained) has.same)
-          (λ l has. record { watch = has.watch; contained = stays (list_of l) has.watch (omega arith) has.contained; same = has.same; blocker = has.blocker })
-          (λ l quiet. quiet) (kept.guarded watch.key lits found))
+    (λ three. blocker_there before list watch rest count keys seen store trail is kept three)
+    (λ k other. refl) refl
+    (λ lits found. guarded_mapped (merged before list) (merged lists list) trail trail seen seen watch.key lits (state_in keys watch.key) (omega arith)
+    (λ n high has. has_key (merged lists list n) watch.key has.watch (stays n has.watch high has.contained) has.same)
+    (λ l has. record { watch = has.watch; contained = stays (list_of l) has.watch (omega arith) has.contained; same = has.same; blocker = has.blocker })
+    (λ l quiet. quiet) (kept.guarded watch.key lits found))
 
 -- the lists where the first pending watch goes
 pub record HasMoved (w new : Watching) (lists : ℕ → List Watch) (to : ℕ) (watch x : Watch) : Type 0 where
@@ -137,7 +137,7 @@ moves w new lists to watch x had front links there le =
     let rest : List Watch = f.0 in
     let apart : to ≡ pending → ⊥ = λ e. absurd (omega arith) in
     let have : HaveLists new.links (moved lists pending to x rest) = subst (λ (l : Links). HaveLists l (moved lists pending to x rest)) (sym links)
-        (have_relinked w.links lists pending to watch x rest had f.1 (λ e. apart (sym e)) (omega arith) there) in
+    (have_relinked w.links lists pending to watch x rest had f.1 (λ e. apart (sym e)) (omega arith) there) in
     let now : moved lists pending to x rest pending ≡ rest = pending_moved lists to to watch x rest f.1 apart in
     let less : length (lists pending) ≡ 1 + length rest = omega (arith, ap length f.1) in
     record {
@@ -155,14 +155,16 @@ kept_as lists w new store trail heads seen kept =
 
 pub goes_back : (list : ℕ) (w new : Watching) (store : Store) (trail : Assignment) (watch : Watch) → IsWalking list w store trail → HasFront w.links pending watch → new.links ≡ relinked w.links pending list watch → new.keys ≡ w.keys → new.seen ≡ w.seen → list < length w.links.heads → 2 ≤ list → IsWalking list new store trail × (pending_in new.links < pending_in w.links)
 goes_back list w new store trail watch p front links keys seen there le =
-    let m = moves w new p.lists list watch watch p.have front links there (omega arith) in
-    (record {
-      lists = moved p.lists pending list watch m.rest;
-      have = m.have;
-      kept = kept_as (merged (moved p.lists pending list watch m.rest) list) w new store trail m.heads seen
-          (subst (λ (ks : List State). AreKept (merged (moved p.lists pending list watch m.rest) list) (length w.links.heads) ks w.seen store trail) (sym keys)
-          (back_kept list p.lists (length w.links.heads) w.keys w.seen store trail watch m.rest m.is p.kept le));
-    }, m.fewer)
+    let m = moves w new p.lists list watch watch p.have front links there (omega arith) in (
+      record {
+        lists = moved p.lists pending list watch m.rest;
+        have = m.have;
+        kept = kept_as (merged (moved p.lists pending list watch m.rest) list) w new store trail m.heads seen
+            (subst (λ (ks : List State). AreKept (merged (moved p.lists pending list watch m.rest) list) (length w.links.heads) ks w.seen store trail) (sym keys)
+            (back_kept list p.lists (length w.links.heads) w.keys w.seen store trail watch m.rest m.is p.kept le));
+      },
+      m.fewer,
+    )
 
 holds_cases : (xs ys : List Entry) (lit : Lit) → HoldsIn (xs ++ ys) lit → HoldsIn xs lit ⊎ HoldsIn ys lit
 holds_cases [] ys lit holds = inr holds
@@ -196,16 +198,16 @@ kept_seen lists count keys seen store trail lit kept lt at faced =
     let more : take (seen + 1) es ≡ take seen es ++ e ∷ [] = take_more es seen some_entry lt in
     let present : e.level ≡ trail.level = kept.late seen some_entry (omega arith) lt in
     let quiet : (key : ℕ) (lits : Nogood) (w : Lit) → lits_at store key ≡ Some lits → (w ≡ lit → WatchesLit (state_in keys key) lit) → IsQuiet es seen lits w → IsQuiet es (seen + 1) lits w = λ key lits w found watches q level holds.
-        elim (holds_cases (up_to level (take seen es)) (up_to level (e ∷ [])) w (subst (λ (xs : List Entry). HoldsIn xs w) (ap (up_to level) more ∙ up_to_append level (take seen es) (e ∷ [])) holds)) [
-          | inl before ↦ q level before
-          | inr new ↦ (
-              let one = holds_one level e w new in
-              let all : up_to level es ≡ es = up_to_all level es (λ k d below. omega (arith, kept.leveled.present k d below, present, one.1)) in
-              elim (faced key lits found (watches (sym one.0 ∙ at some_entry))) [
-                | inl has ↦ (let none : has.contained.0 < 0 = has.contained.1 in absurd (omega arith))
-                | inr false_one ↦ subst (λ (xs : List Entry). HasFalse xs lits) (sym all) false_one
-              ])
-        ] in
+    elim (holds_cases (up_to level (take seen es)) (up_to level (e ∷ [])) w (subst (λ (xs : List Entry). HoldsIn xs w) (ap (up_to level) more ∙ up_to_append level (take seen es) (e ∷ [])) holds)) [
+      | inl before ↦ q level before
+      | inr new ↦ (
+          let one = holds_one level e w new in
+          let all : up_to level es ≡ es = up_to_all level es (λ k d below. omega (arith, kept.leveled.present k d below, present, one.1)) in
+          elim (faced key lits found (watches (sym one.0 ∙ at some_entry))) [
+            | inl has ↦ (let none : has.contained.0 < 0 = has.contained.1 in absurd (omega arith))
+            | inr false_one ↦ subst (λ (xs : List Entry). HasFalse xs lits) (sym all) false_one
+          ])
+    ] in
     let by : (key : ℕ) (lits : Nogood) (w : Lit) → lits_at store key ≡ Some lits → (w ≡ lit → WatchesLit (state_in keys key) lit) → IsWatchedBy lists es seen key lits w → IsWatchedBy lists es (seen + 1) key lits w = λ key lits w found watches b. record {
       contained = b.contained;
       listed = b.listed;
@@ -215,11 +217,11 @@ kept_seen lists count keys seen store trail lit kept lt at faced =
       | Detached ↦ λ key lits is found g. tt
       | Loose ↦ λ key lits is found g. g
       | Watched a b ↦ λ key lits is found g. record {
-          within = g.within;
-          differ = g.differ;
-          by_first = by key lits a found (λ same. subst (λ (s : State). WatchesLit s lit) (sym is) (inl same)) g.by_first;
-          by_second = by key lits b found (λ same. subst (λ (s : State). WatchesLit s lit) (sym is) (inr same)) g.by_second;
-        }
+        within = g.within;
+        differ = g.differ;
+        by_first = by key lits a found (λ same. subst (λ (s : State). WatchesLit s lit) (sym is) (inl same)) g.by_first;
+        by_second = by key lits b found (λ same. subst (λ (s : State). WatchesLit s lit) (sym is) (inr same)) g.by_second;
+      }
     ] in
     record {
       leveled = kept.leveled;
@@ -274,6 +276,6 @@ step_advanced w new store old trail lit i p step seen lt read faced is =
       have = step.have;
       kept = kept_seen step.lists (length w.links.heads) w.keys w.seen store trail lit step.kept (omega arith)
           (λ d. ap (λ (es : List Entry). (get_or es w.seen d).lit) p.entries ∙ ap (λ (x : Entry). x.lit) (get_or-append old.entries p.added d w.seen below)
-            ∙ ap (λ n. (get_or old.entries n d).lit) seen ∙ at_is old.entries i lit d lt read) faced;
+          ∙ ap (λ n. (get_or old.entries n d).lit) seen ∙ at_is old.entries i lit d lt read) faced;
       none = step.none;
     })

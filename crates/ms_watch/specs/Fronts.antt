@@ -97,15 +97,15 @@ quiet_back level seen len cut es lits lit rising is less within quiet =
     let same : take cut (up_to level es) ≡ take cut es = ap (take cut) front ∙ take_less cut len es within in
     let longer : take seen es ≡ take cut es ++ drop cut (take seen es) = sym (take-append-drop cut (take seen es)) ∙ ap (λ (xs : List Entry). xs ++ drop cut (take seen es)) (take_less cut seen es less) in
     let at : (lower : ℕ) → lower ≤ level → HoldsIn (up_to lower (take cut (up_to level es))) lit → HasFalse (up_to lower (up_to level es)) lits = λ lower low holds.
-        let here : HoldsIn (up_to lower (take cut es)) lit = subst (λ (xs : List Entry). HoldsIn (up_to lower xs) lit) same holds in
-        let more : HoldsIn (up_to lower (take cut es) ++ up_to lower (drop cut (take seen es))) lit = holds_more (up_to lower (take cut es)) (up_to lower (drop cut (take seen es))) lit here in
-        let all : HoldsIn (up_to lower (take seen es)) lit = subst (λ (xs : List Entry). HoldsIn xs lit) (sym (ap (up_to lower) longer ∙ up_to_append lower (take cut es) (drop cut (take seen es)))) more in
-        subst (λ (xs : List Entry). HasFalse xs lits) (sym (filter_twice lower level es low)) (quiet lower all) in
+    let here : HoldsIn (up_to lower (take cut es)) lit = subst (λ (xs : List Entry). HoldsIn (up_to lower xs) lit) same holds in
+    let more : HoldsIn (up_to lower (take cut es) ++ up_to lower (drop cut (take seen es))) lit = holds_more (up_to lower (take cut es)) (up_to lower (drop cut (take seen es))) lit here in
+    let all : HoldsIn (up_to lower (take seen es)) lit = subst (λ (xs : List Entry). HoldsIn xs lit) (sym (ap (up_to lower) longer ∙ up_to_append lower (take cut es) (drop cut (take seen es)))) more in
+    subst (λ (xs : List Entry). HasFalse xs lits) (sym (filter_twice lower level es low)) (quiet lower all) in
     let low : All (λ e. e.level ≤ level) (up_to level es) = up_to_low level es in
     λ lower holds. elim (cases_lt level lower) [
       | inl above ↦ (
           let every : (xs : List Entry) → All (λ e. e.level ≤ level) xs → up_to lower xs ≡ up_to level xs = λ xs all.
-              up_to_all lower xs (All-weaker (λ (e : Entry). e.level ≤ level) (λ (e : Entry). e.level ≤ lower) (λ e le. omega arith) xs all) ∙ sym (up_to_all level xs all) in
+          up_to_all lower xs (All-weaker (λ (e : Entry). e.level ≤ level) (λ (e : Entry). e.level ≤ lower) (λ e le. omega arith) xs all) ∙ sym (up_to_all level xs all) in
           let here : HoldsIn (up_to level (take cut (up_to level es))) lit = subst (λ (xs : List Entry). HoldsIn xs lit) (every (take cut (up_to level es)) (All-take (λ (e : Entry). e.level ≤ level) cut (up_to level es) low)) holds in
           subst (λ (xs : List Entry). HasFalse xs lits) (sym (every (up_to level es) low)) (at level (omega arith) here))
       | inr under ↦ at lower under holds

@@ -105,7 +105,7 @@ kept_assigned lists count keys seen store trail lit reason kept =
       blockers = kept.blockers;
       guarded = λ key lits found. guarded_still lists trail (with_lit trail lit reason) seen seen key lits (state_in keys key) (omega arith)
           (λ l quiet level holds. false_more level trail.entries (e ∷ []) lits
-            (quiet level (subst (λ (es : List Entry). HoldsIn (up_to level es) l) (take-append-le seen trail.entries (e ∷ []) kept.looked) holds)))
+          (quiet level (subst (λ (es : List Entry). HoldsIn (up_to level es) l) (take-append-le seen trail.entries (e ∷ []) kept.looked) holds)))
           (kept.guarded key lits found);
     }
 

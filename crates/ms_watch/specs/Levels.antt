@@ -63,9 +63,9 @@ pub level_up_to : (a : Assignment) (level : ℕ) (lit : Lit) (e : Entry) → IsA
 level_up_to a level lit e t found holds = elim (cases_lt level e.level) [
   | inl high ↦
       let none : entry_of (up_to level a.entries) lit.var ≡ None = lost_up_to level a.entries lit.var (λ i lt same.
-          let first : entry_of a.entries lit.var ≡ Some (get_or a.entries i some_entry) = entry_first a.entries lit.var i some_entry lt same (λ k below also. t.once k i some_entry below lt (also ∙ sym same)) in
-          let is = some_same e (get_or a.entries i some_entry) (sym found ∙ first) in
-          subst (λ (x : Entry). level < x.level) is high) in
+      let first : entry_of a.entries lit.var ≡ Some (get_or a.entries i some_entry) = entry_first a.entries lit.var i some_entry lt same (λ k below also. t.once k i some_entry below lt (also ∙ sym same)) in
+      let is = some_same e (get_or a.entries i some_entry) (sym found ∙ first) in
+      subst (λ (x : Entry). level < x.level) is high) in
       let value : None ≡ Some lit.truth = sym (ap (option_map (λ (x : Entry). x.lit.truth)) none) ∙ holds in
       cc
   | inr low ↦ low

@@ -95,9 +95,9 @@ returns-in-Moves-clause-passing c =
     let keys : c.self.inside.keys.items ≡ w.keys = ap (λ (u : Watching). u.keys) view in
     let seen : new.seen ≡ w.seen = ap (λ (u : Watching). u.seen) view in
     let both = passing_moves c.args.lit w c.args.store.now c.args.trail.now c.args.watch c.requires.passing c.requires.front new x c.in-Moves.next c.in-Moves.other links
-        (state_set w.keys new.keys c.args.watch.key state (other_attached (state_in w.keys c.args.watch.key) c.args.lit c.in-Moves.other c.in-Moves.ensures.0) (ap (λ (ks : List State). set ks c.args.watch.key state) keys))
-        (state_else w.keys new.keys c.args.watch.key state (ap (λ (ks : List State). set ks c.args.watch.key state) keys))
-        seen c.requires.there refl c.in-Moves.ensures.0 c.in-Moves.ensures.1 in
+    (state_set w.keys new.keys c.args.watch.key state (other_attached (state_in w.keys c.args.watch.key) c.args.lit c.in-Moves.other c.in-Moves.ensures.0) (ap (λ (ks : List State). set ks c.args.watch.key state) keys))
+    (state_else w.keys new.keys c.args.watch.key state (ap (λ (ks : List State). set ks c.args.watch.key state) keys))
+    seen c.requires.there refl c.in-Moves.ensures.0 c.in-Moves.ensures.1 in
     both.0
 
 pub returns-in-Moves-clause-fewer : goal.returns-in-Moves-clause-fewer
@@ -112,9 +112,9 @@ returns-in-Moves-clause-fewer c is =
     let keys : c.self.inside.keys.items ≡ w.keys = ap (λ (u : Watching). u.keys) view in
     let seen : new.seen ≡ w.seen = ap (λ (u : Watching). u.seen) view in
     let both = passing_moves c.args.lit w c.args.store.now c.args.trail.now c.args.watch c.requires.passing c.requires.front new x c.in-Moves.next c.in-Moves.other links
-        (state_set w.keys new.keys c.args.watch.key state (other_attached (state_in w.keys c.args.watch.key) c.args.lit c.in-Moves.other c.in-Moves.ensures.0) (ap (λ (ks : List State). set ks c.args.watch.key state) keys))
-        (state_else w.keys new.keys c.args.watch.key state (ap (λ (ks : List State). set ks c.args.watch.key state) keys))
-        seen c.requires.there refl c.in-Moves.ensures.0 c.in-Moves.ensures.1 in
+    (state_set w.keys new.keys c.args.watch.key state (other_attached (state_in w.keys c.args.watch.key) c.args.lit c.in-Moves.other c.in-Moves.ensures.0) (ap (λ (ks : List State). set ks c.args.watch.key state) keys))
+    (state_else w.keys new.keys c.args.watch.key state (ap (λ (ks : List State). set ks c.args.watch.key state) keys))
+    seen c.requires.there refl c.in-Moves.ensures.0 c.in-Moves.ensures.1 in
     both.1
 
 pub returns-in-Forces-2-clause-passing : goal.returns-in-Forces-2-clause-passing
@@ -131,9 +131,9 @@ returns-in-Forces-2-clause-passing c =
       | in-Whole+else-awake-2 b ↦ (b.in-Whole.ensures.0, b.in-Whole.ensures.1)
     ] in
     let both = passing_loosens c.args.lit w c.args.store.now c.args.trail.now c.args.watch c.requires.passing c.requires.front new some.0 links
-        (state_set w.keys new.keys c.args.watch.key Loose (other_attached (state_in w.keys c.args.watch.key) c.args.lit some.0 some.1) (ap (λ (ks : List State). set ks c.args.watch.key Loose) keys))
-        (state_else w.keys new.keys c.args.watch.key Loose (ap (λ (ks : List State). set ks c.args.watch.key Loose) keys))
-        seen c.requires.there some.1 in
+    (state_set w.keys new.keys c.args.watch.key Loose (other_attached (state_in w.keys c.args.watch.key) c.args.lit some.0 some.1) (ap (λ (ks : List State). set ks c.args.watch.key Loose) keys))
+    (state_else w.keys new.keys c.args.watch.key Loose (ap (λ (ks : List State). set ks c.args.watch.key Loose) keys))
+    seen c.requires.there some.1 in
     both.0
 
 pub returns-in-Forces-2-clause-fewer : goal.returns-in-Forces-2-clause-fewer
@@ -150,9 +150,9 @@ returns-in-Forces-2-clause-fewer c is =
       | in-Whole+else-awake-2 b ↦ (b.in-Whole.ensures.0, b.in-Whole.ensures.1)
     ] in
     let both = passing_loosens c.args.lit w c.args.store.now c.args.trail.now c.args.watch c.requires.passing c.requires.front new some.0 links
-        (state_set w.keys new.keys c.args.watch.key Loose (other_attached (state_in w.keys c.args.watch.key) c.args.lit some.0 some.1) (ap (λ (ks : List State). set ks c.args.watch.key Loose) keys))
-        (state_else w.keys new.keys c.args.watch.key Loose (ap (λ (ks : List State). set ks c.args.watch.key Loose) keys))
-        seen c.requires.there some.1 in
+    (state_set w.keys new.keys c.args.watch.key Loose (other_attached (state_in w.keys c.args.watch.key) c.args.lit some.0 some.1) (ap (λ (ks : List State). set ks c.args.watch.key Loose) keys))
+    (state_else w.keys new.keys c.args.watch.key Loose (ap (λ (ks : List State). set ks c.args.watch.key Loose) keys))
+    seen c.requires.there some.1 in
     both.1
 
 pub returns-in-Forces-clause-propagates : goal.returns-in-Forces-clause-propagates
@@ -162,7 +162,7 @@ returns-in-Forces-clause-propagates c =
     let is_other : IsOther (state_in w.keys c.args.watch.key) c.args.lit other = c.in-Forces.ensures.0 in
     let but = c.in-Forces.ensures.1 in
     let propagates : Propagates c.args.store.now c.args.trail.now c.assign.new.self = forced_one c.args.store.now c.args.trail.now c.assign.new.self c.args.watch.key but.lits other c.opposite.result
-        (sym c.awake.ensures ∙ c.if-awake.true) but.found (pair_there c.args.lit w c.args.store.now c.args.trail.now c.args.watch c.requires.passing c.requires.front other but.lits but.found is_other).by_other.contained c.in-Forces.ensures.2 but.all c.opposite.ensures c.assign.ensures in
+    (sym c.awake.ensures ∙ c.if-awake.true) but.found (pair_there c.args.lit w c.args.store.now c.args.trail.now c.args.watch c.requires.passing c.requires.front other but.lits but.found is_other).by_other.contained c.in-Forces.ensures.2 but.all c.opposite.ensures c.assign.ensures in
     propagates
 
 pub returns-in-Forces-clause-passing : goal.returns-in-Forces-clause-passing
@@ -200,4 +200,3 @@ returns-in-Forces-clause-fewer c is =
     let seen : new.seen ≡ w.seen = ap (λ (u : Watching). u.seen) view in
     let both = passing_stays c.args.lit w c.args.store.now trail c.args.watch p c.requires.front new x links keys seen c.requires.there refl false_now (inr c.in-Forces.ensures.0) in
     both.1
-

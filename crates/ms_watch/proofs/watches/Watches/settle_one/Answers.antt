@@ -56,7 +56,7 @@ returns-in-Two-clause-settling c before s =
           (sym c.state.ensures ∙ c.in-Loose.is) c.get.ensures (within_one c.args.store.now c.args.trail.now.room c.args.watch.key lits c.requires.within awake c.get.ensures) o
       | inr e ↦ settling_stays before c.args.self.now c.watch.new.self c.args.store.now c.args.trail.now c.args.watch s c.requires.front e c.requires.there
           (λ state same. calm_at c.args.store.now c.args.trail.now.entries c.args.watch.key lits (awake_is c.args.store.now c.args.watch.key lits awake c.get.ensures)
-            (calm_two c.args.trail.now.entries lits c.in-Two.first c.in-Two.second o.differ o.has_first o.has_second o.first_untrue o.second_untrue))
+          (calm_two c.args.trail.now.entries lits c.in-Two.first c.in-Two.second o.differ o.has_first o.has_second o.first_untrue o.second_untrue))
     ]
 
 pub returns-in-Two-clause-fewer : goal.returns-in-Two-clause-fewer
@@ -83,7 +83,7 @@ returns-in-One-clause-settling c before s =
     elim c.force.ensures.assigned [
       | inl h ↦ settling_stays before w c.send-in-One.new.self c.args.store.now new_trail c.args.watch (subst (IsSettling before w c.args.store.now) (sym h.0) s) c.requires.front c.send-in-One.ensures c.requires.there
           (λ state same. subst (λ (a : Assignment). IsCalmAt c.args.store.now a.entries c.args.watch.key) (sym h.0)
-            (calm_at c.args.store.now trail.entries c.args.watch.key lits (awake_is c.args.store.now c.args.watch.key lits awake c.get.ensures) (calm_open trail.entries lits lit c.in-One.ensures.0 h.1)))
+          (calm_at c.args.store.now trail.entries c.args.watch.key lits (awake_is c.args.store.now c.args.watch.key lits awake c.get.ensures) (calm_open trail.entries lits lit c.in-One.ensures.0 h.1)))
       | inr e ↦ settling_stays before w c.send-in-One.new.self c.args.store.now new_trail c.args.watch
           (subst (IsSettling before w c.args.store.now) (sym e) (settling_assigned before w c.args.store.now trail (opposite_of lit) (Some c.args.watch.key) s)) c.requires.front c.send-in-One.ensures c.requires.there
           (λ state same. absurd (omega (arith, same, s.longer, ap (λ (a : Assignment). length a.entries) e, length-append trail.entries (entry_made (opposite_of lit) trail.level (Some c.args.watch.key) ∷ []))))
