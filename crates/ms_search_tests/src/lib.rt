@@ -4,6 +4,10 @@
 #[cfg(test)]
 mod analyze;
 #[cfg(test)]
+mod bench;
+#[cfg(test)]
 mod lits;
 #[cfg(test)]
 mod nogood;
+#[cfg(test)]
+mod search;

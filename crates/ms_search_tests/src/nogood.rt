@@ -172,7 +172,7 @@ fn scans(rt: HostRuntime) -> Result<(), Fail> {
 
 /// It gives nothing.
 #[derive(Drop)]
-struct Silent;
+pub(crate) struct Silent;
 
 impl Theory for Silent {
     ghost vars = { λ _. 0 };

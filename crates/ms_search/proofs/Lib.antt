@@ -1,0 +1,13 @@
+pub mod Jumps
+pub mod Orders
+pub mod Fronts
+pub mod OnTrail
+pub mod Lines
+pub mod Moves
+pub mod Answers
+pub mod Readies
+pub mod Rounds
+pub mod Lists
+pub mod Begins
+pub mod Ends
+pub mod Wires
