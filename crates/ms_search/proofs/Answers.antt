@@ -22,7 +22,7 @@ use Rattle.ms_refutation.proofs.Found.{entries_derived, found_contains_none}
 use Rattle.ms_analyze.specs.Cuts.{no_entry}
 use Rattle.ms_analyze.proofs.Trails.{holds_there}
 use Rattle.ms_lawful.specs.Problems.{HasNogood, IsAdmitted, Problem, holds_under, literal_of, signs_of_atoms, true_atoms}
-use Rattle.ms_lawful.specs.Lines.{AreLines, InFullStore, IsAnswerLine, IsLine, IsOwnLine, MayFollow, Stage, Stands, answer_of, answers_in, first_stage, of_answer, spent_for, stage_after, temporary}
+use Rattle.ms_lawful.specs.Lines.{AreLines, InFullStore, IsAnswerLine, IsLine, IsOwnLine, MayFollow, Stage, Stands, answer_of, answers_in, first_stage, of_answer, of_completion, spent_for, stage_after, stored, temporary}
 use Rattle.ms_lawful.proofs.Listed.{own_follows}
 use Rattle.ms_lawful.proofs.Stages.{lines_after, lines_push, stage_after-push}
 use Rattle.ms_search.specs.Engines.{AllAssigned, is_true, truth_in}
@@ -96,7 +96,9 @@ module _ (problem : Problem) (a : Assignment) (ds : List Lit) (store : Store) (l
 
   pub answer_admitted : ((nogood : Nogood) → problem.Gives nogood → HasNogood (truth_in a.entries) nogood → ⊥) → IsAdmitted problem (truth_in a.entries)
   answer_admitted accepts = record {
-    completed = λ nogood base has. none_stored nogood (c.base nogood base) has;
+    completed = λ nogood base has.
+        let one = c.standing nogood (stored (of_completion base)) in
+        none_stored one.small one.among (λ k d lt. All-contains (λ (x : Lit). IsTrue (holds_under (truth_in a.entries) x)) nogood (get_or one.small k d) has (one.contained k d lt));
     accepted = accepts;
   }
 

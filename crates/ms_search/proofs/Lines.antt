@@ -81,7 +81,7 @@ pub contained_through : (nogood small smaller : Nogood) → IsContained nogood s
 contained_through nogood small smaller outer inner k d lt = All-contains (Contains nogood) small (get_or smaller k d) outer (inner k d lt)
 
 -- equal values give equal lists
-filter_map-same : (h g : ℕ → Option Nogood) (xs : List ℕ) → All (λ x. h x ≡ g x) xs → filter_map h xs ≡ filter_map g xs
+pub filter_map-same : (h g : ℕ → Option Nogood) (xs : List ℕ) → All (λ x. h x ≡ g x) xs → filter_map h xs ≡ filter_map g xs
 filter_map-same h g [] same = refl
 filter_map-same h g (x ∷ xs) same =
     ap (λ (o : Option Nogood). cons_option o (filter_map h xs)) (same 0 x (omega arith))
@@ -163,7 +163,6 @@ module _ (problem : Problem) (old new : Store) (lines : List Note) (lits : Nogoo
       | inr same ↦ subst (λ (x : Stored). IsKnown problem (lines ++ line ∷ []) x.kind x.lits) same (known_new problem lines kind lits other)
     ];
     standing = standing_gained;
-    base = λ nogood is. stored_gained nogood (c.base nogood is);
     within = within_gained small;
     kept = kept;
     order = order;
@@ -187,7 +186,6 @@ covered_answered problem store lines answer c = record {
     | inl before ↦ c.standing nogood before
     | inr is ↦ cc
   ];
-  base = c.base;
   within = c.within;
   kept = c.kept ∙ ap (λ (xs : List Nogood). problem.kept ++ xs) (sym (filter_map-append kept_by lines (notes.Answer answer ∷ []) ∙ append-nil (kept_in lines)));
   order = c.order;

@@ -106,6 +106,7 @@ goes_on_gained begun old new stored o g some other = record {
         inr (subst (λ (x : Stored). (x.kind ≢ None) × (x.kind ≢ Some Base)) one (some, other)))
     | inr apart ↦ o.added key s (sym (g.others key apart) ∙ here)
   ];
+  lasting = o.lasting;
 }
 
 -- no entry yet

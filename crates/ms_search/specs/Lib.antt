@@ -5,3 +5,4 @@ pub mod Notes
 pub mod Engines
 pub mod Runs
 pub mod Posed
+pub mod Needless

@@ -6,6 +6,7 @@ mod choice;
 mod engine;
 mod jump;
 mod log;
+mod needless;
 mod order;
 mod search;
 mod steps;
