@@ -1,23 +1,23 @@
 -- The completion of a body, by numbers and by things.
-use Rattle.std.proofs.Common.{◌≡◌, ◌≢◌, ◌∙◌, ◌⊎◌, ◌+◌, ◌<◌, ◌≤◌, ℕ, not, Bool, true, false, List, [], ◌∷◌, ◌++◌, Option, Some, None, map, take, length, get_or, refl, sym, ap, subst, inl, inr, arith, append_assoc}
+use Rattle.std.proofs.Common.{◌≡◌, ◌≢◌, ◌∙◌, ◌+◌, ◌<◌, ◌≤◌, ℕ, not, Bool, List, [], ◌∷◌, ◌++◌, Option, Some, take, length, get_or, refl, sym, ap, subst, inl, inr, arith, append_assoc}
 use Rattle.std.specs.Prelude.{slice_get}
 use Rattle.std.specs.List.{All, AllPairs, Any, Contains}
-use Rattle.std.proofs.lemmas.Bool.{cases_eq, cases_lt}
+use Rattle.std.proofs.lemmas.Bool.{cases_eq}
 use Rattle.std.proofs.lemmas.List.{map-append}
-use Rattle.std.proofs.lemmas.List.Elements.{All-cons, All-contains, Contains-push, Contains-push_cases, Contains-append_left}
+use Rattle.std.proofs.lemmas.List.Elements.{All-cons, All-contains, Contains-push, Contains-push_cases}
 use Rattle.std.proofs.lemmas.Option.{slice_get_within}
 use Rattle.ms_lits.specs.declared.lit.Lit.{Lit}
 use Rattle.ms_lits.specs.Literals.{Nogood, opposite_of}
 use Rattle.ms_nogood.specs.Store.{Store}
 use Rattle.ms_join.specs.Things.{Body, Thing}
-use Rattle.ms_join.specs.Things.Thing.{atom, body, tuple, aggregate}
+use Rattle.ms_join.specs.Things.Thing.{atom, body}
 use Rattle.ms_things.specs.Signs.{Signed, IsFor, IsNogoodOf, plus, minus, turned}
 use Rattle.ms_things.specs.Completion.{parts_of}
 use Rattle.ms_complete.specs.Bases.{AddsExactly}
 use Rattle.ms_complete.specs.Numbering.{AreDeclared}
 use Rattle.ms_complete.specs.Rules.{holds, fails, signed_atoms, PartsSay, BodySays, BodyNogood, ThingNogood, ThingSays, NewSay}
 use Rattle.ms_complete.specs.Sets.{Match, Writes, pair}
-use Rattle.ms_complete.proofs.Lists.{any_from, any_here, any_later, any_left, member_of, none_is_some, some_at, all_from, next_one}
+use Rattle.ms_complete.proofs.Lists.{any_from, any_here, any_later, any_left, member_of, some_at, all_from, next_one}
 use Rattle.ms_complete.proofs.NumberLaws.{match_push}
 use Rattle.ms_complete.proofs.Stores.{adds_none, adds_same, adds_then}
 use Rattle.ms_complete.proofs.Writing.{nogood_from, writes_from}

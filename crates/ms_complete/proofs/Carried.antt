@@ -1,25 +1,24 @@
 -- Nogoods of old things among more, rules by their heads, and literals for signed things.
-use Rattle.std.proofs.Common.{◌≡◌, ◌≢◌, ◌∙◌, ◌⊎◌, ◌+◌, ◌<◌, ◌≤◌, ℕ, zero, suc, Bool, true, false, nat_eq, not, List, [], ◌∷◌, ◌++◌, Option, Some, None, map, length, refl, sym, ap, subst, inl, inr, arith, eq-eqb}
-use Rattle.std.specs.Prelude.{slice_get, IfSome, ◌↔◌}
+use Rattle.std.proofs.Common.{◌≡◌, ◌≢◌, ◌∙◌, ◌⊎◌, ◌<◌, ℕ, Bool, true, false, nat_eq, List, [], ◌∷◌, ◌++◌, Option, Some, None, map, length, refl, sym, ap, subst, inl, inr, eq-eqb}
+use Rattle.std.specs.Prelude.{slice_get, IfSome}
 use Rattle.std.specs.List.{All, AllPairs, Any, Contains, filter}
 use Rattle.std.proofs.lemmas.Bool.Decides.{Decides-eqb}
 use Rattle.std.proofs.lemmas.Bool.{cond-false, false≢true, false_from_ne_true}
-use Rattle.std.proofs.lemmas.List.{append-nil, get_or_append_left, map-append}
-use Rattle.std.proofs.lemmas.List.Elements.{All-append, All-cons, All-contains, All-nil, All-map, Contains-append_cases, Contains-append_left, Contains-append_right, filter-append, filter_passes}
+use Rattle.std.proofs.lemmas.List.{get_or_append_left}
+use Rattle.std.proofs.lemmas.List.Elements.{All-cons, All-contains, All-nil, All-map}
 use Rattle.std.proofs.lemmas.Option.{get_or_from_slice_get, slice_get-get_or}
 use Rattle.ms_lits.specs.declared.lit.Lit.{Lit}
-use Rattle.ms_lits.specs.Literals.{Nogood, opposite_of}
+use Rattle.ms_lits.specs.Literals.{Nogood}
 use Rattle.ms_join.specs.declared.ground_rule.GroundKind.{GroundKind}
 use Rattle.ms_join.specs.declared.ground_rule.GroundKind.TheVariants.{Normal, Choice, Constraint}
 use Rattle.ms_join.specs.declared.ground_rule.GroundRule.{GroundRule}
-use Rattle.ms_join.specs.Things.{Body, Tuple, Thing, IsThing, IsThingOf, body_of, tuple_of}
+use Rattle.ms_join.specs.Things.{Body, Thing}
 use Rattle.ms_join.specs.Things.Thing.{atom, body, tuple, aggregate}
-use Rattle.ms_things.specs.Signs.{Signed, IsFor, IsNogoodOf, plus, minus, turned}
-use Rattle.ms_things.specs.Completion.{parts_of, has_head_in, false_bodies, Completion, whole_body, part_of_body, no_condition, condition_of_tuple, unsupported, no_head, broken, IsOf, signs_of, IsCompletionNogood}
-use Rattle.ms_complete.specs.Keys.{plain, plain_body}
-use Rattle.ms_complete.specs.Rules.{IsAtomAt, IsHeadAt, IsNumbered, holds, fails, BodyNogood, ThingNogood, NewSay, SaysByKind, RuleSays, IsSupport, AreSupports, head_lits, AreOwn, HeadSays}
+use Rattle.ms_things.specs.Signs.{Signed, IsFor, IsNogoodOf}
+use Rattle.ms_things.specs.Completion.{has_head_in}
+use Rattle.ms_complete.specs.Rules.{IsAtomAt, IsHeadAt, holds, fails, BodyNogood, ThingNogood, SaysByKind}
 use Rattle.ms_complete.specs.Sets.{Match, Writes, pair}
-use Rattle.ms_complete.proofs.Lists.{any_from, any_weaker, any_none, any_here, any_later, member_of, member_here, member_later, member_none, member_cases, member_map, member_map_cases, some_at, at_some, at_left, some_once, same_some, none_is_some, all_from}
+use Rattle.ms_complete.proofs.Lists.{any_from, any_weaker, any_here, any_later, member_of, member_here, member_later, member_none, member_cases, at_some, at_left, some_once, same_some, none_is_some, all_from}
 
 -- Things keep their numbers, so a set of old things is written as before.
 module _ (O more N : List Thing) (is : N ≡ O ++ more) (once : AllPairs (λ t u. t ≢ u) N) where

@@ -1,9 +1,9 @@
 -- What taking a module does to the nogoods of the program: they are the completion nogoods of the new join.
-use Rattle.std.proofs.Common.{◌≡◌, ◌≢◌, ◌∙◌, ◌⊎◌, ◌+◌, ◌<◌, ◌≤◌, ℕ, Bool, true, false, not, nat_eq, eq-eqb, suc, List, [], ◌∷◌, ◌++◌, Option, Some, None, map, length, refl, sym, ap, subst, inl, inr, arith}
-use Rattle.std.specs.Prelude.{slice_get, IfSome, ◌↔◌}
-use Rattle.std.specs.List.{All, AllPairs, Any, Contains, filter}
+use Rattle.std.proofs.Common.{◌≡◌, ◌∙◌, ◌⊎◌, ◌+◌, ◌<◌, ◌≤◌, ℕ, true, false, not, nat_eq, eq-eqb, suc, List, [], ◌∷◌, ◌++◌, Option, Some, map, length, refl, sym, ap, subst, inl, inr, arith}
+use Rattle.std.specs.Prelude.{slice_get, IfSome}
+use Rattle.std.specs.List.{All, Any, Contains, filter}
 use Rattle.std.proofs.lemmas.Bool.Decides.{Decides-eqb}
-use Rattle.std.proofs.lemmas.Bool.{cases_eq, cases_lt, false≢true}
+use Rattle.std.proofs.lemmas.Bool.{cases_eq, cases_lt}
 use Rattle.std.proofs.lemmas.List.{append-nil}
 use Rattle.std.proofs.lemmas.List.Elements.{All-append, All-cons, All-contains, All-nil, All-map, Contains-append_cases, filter-append, filter_passes}
 use Rattle.ms_base.proofs.Lists.{Contains-filter, Contains-filtered}
@@ -11,33 +11,29 @@ use Rattle.ms_lits.specs.declared.lit.Lit.{Lit}
 use Rattle.ms_lits.specs.Literals.{Nogood}
 use Rattle.ms_nogood.specs.Store.{Store}
 use Rattle.ms_join.specs.declared.aggregate.SignedAgg.{SignedAgg}
-use Rattle.ms_join.specs.declared.ground_rule.GroundKind.TheVariants.{Normal, Choice, Constraint}
 use Rattle.ms_join.specs.declared.ground_rule.GroundRule.{GroundRule}
 use Rattle.ms_join.specs.declared.ground_rule.Input.{Input}
 use Rattle.ms_join.specs.declared.ground_module.GroundModule.{GroundModule}
 use Rattle.ms_join.specs.AnswerSets.{IsRuleOver}
-use Rattle.ms_join.specs.Modules.{Join, IsInput, IsJoin, IsJoined, IsOutput, IsWellFormed, StaysInput, BecomesInput, declared_value}
-use Rattle.ms_join.specs.Composability.{IsComposable, IsRedefined}
+use Rattle.ms_join.specs.Modules.{Join, IsInput, IsJoined, IsOutput, declared_value}
 use Rattle.ms_join.specs.Things.{Body, Tuple, Thing, IsThing, IsThingOf, body_of, tuple_of}
 use Rattle.ms_join.specs.Things.Thing.{atom, body, tuple, aggregate}
 use Rattle.ms_things.specs.Numbers.{AreThings, IsMadeOf}
 use Rattle.ms_things.specs.Signs.{Signed, IsFor, IsNogoodOf, plus, minus, turned}
-use Rattle.ms_things.specs.Completion.{parts_of, has_head_in, false_bodies, Completion, whole_body, part_of_body, no_condition, condition_of_tuple, unsupported, no_head, broken, IsOf, signs_of, IsCompletionNogood}
+use Rattle.ms_things.specs.Completion.{parts_of, false_bodies, Completion, whole_body, part_of_body, no_condition, condition_of_tuple, unsupported, no_head, broken, IsOf, signs_of, IsCompletionNogood}
 use Rattle.ms_complete.specs.declared.key.NumberedRule.{NumberedRule}
 use Rattle.ms_complete.specs.declared.key.Support.{Support}
-use Rattle.ms_complete.specs.Keys.{plain_body}
-use Rattle.ms_complete.specs.Bases.{AddsExactly, HasExactly}
+use Rattle.ms_complete.specs.Bases.{AddsExactly}
 use Rattle.ms_complete.specs.Numbering.{Numbering}
 use Rattle.ms_complete.specs.Rules.{IsAtomAt, IsNumbered, holds, fails, BodyNogood, ThingNogood, NewSay, RuleSays, IsSupport, AreSupports, head_lits, AreOwn, HeadSays}
-use Rattle.ms_complete.specs.Sets.{Match, Writes, pair}
+use Rattle.ms_complete.specs.Sets.{Match, pair}
 use Rattle.ms_complete.specs.Completing.{AreOf, CanTake}
-use Rattle.ms_complete.proofs.Lists.{any_from, any_here, any_later, member_of, member_cases, member_map, member_map_cases, some_at, at_some, some_once, same_some, all_from}
+use Rattle.ms_complete.proofs.Lists.{any_from, any_here, any_later, member_of, member_cases, member_map, some_at, at_some, some_once, same_some, all_from}
 use Rattle.ms_complete.proofs.KeyLaws.{same_atom}
-use Rattle.ms_complete.proofs.NumberLaws.{keeps_member}
 use Rattle.ms_complete.proofs.Stores.{has_after}
-use Rattle.ms_complete.proofs.Taking.{IsFrom, Declared, plain_is, no_element, head_within, rules_cases, old_rule, old_any, new_any, rule_over, body_of_module, no_tuple, body_at, are_things}
+use Rattle.ms_complete.proofs.Taking.{Declared, plain_is, no_element, head_within, rules_cases, old_rule, old_any, new_any, rule_over, no_tuple, body_at, are_things}
 use Rattle.ms_complete.proofs.Writing.{nogood_from, writes_from}
-use Rattle.ms_complete.proofs.Carried.{nogood_stays, nogood_was, front_at, filter_none, heads, has_head, head_is, other_head, if_some, number_of, head_of, SaysNormal, says_cases, says_normal, says_constraint, thing_says, match_one, match_two, part_atoms}
+use Rattle.ms_complete.proofs.Carried.{nogood_stays, nogood_was, front_at, filter_none, heads, has_head, head_is, other_head, if_some, number_of, head_of, says_cases, says_normal, says_constraint, thing_says, match_one, match_two, part_atoms}
 
 member_or_not : (xs : List ℕ) (a : ℕ) → Contains xs a ⊎ (¬ Contains xs a)
 member_or_not [] a = inr (λ (k, within, is). absurd (omega arith))

@@ -1,8 +1,7 @@
 -- The steps by which a module is taken.
-use Rattle.std.proofs.Common.{◌≡◌, ◌∙◌, ◌⊎◌, ◌+◌, ◌<◌, ◌≤◌, ℕ, List, ◌++◌, length, refl, sym, ap, subst, inl, inr}
-use Rattle.std.specs.List.{All, Any, Contains}
+use Rattle.std.proofs.Common.{◌≡◌, ◌∙◌, ◌⊎◌, ◌+◌, ◌<◌, ◌≤◌, ℕ, List, ◌++◌, length, ap, subst, inl, inr}
+use Rattle.std.specs.List.{Any, Contains}
 use Rattle.std.proofs.lemmas.List.Elements.{All-weaker}
-use Rattle.ms_lits.specs.Literals.{Nogood}
 use Rattle.ms_nogood.specs.Store.{Store}
 use Rattle.ms_join.specs.declared.ground_rule.GroundRule.{GroundRule}
 use Rattle.ms_join.specs.declared.ground_module.GroundModule.{GroundModule}
@@ -11,14 +10,15 @@ use Rattle.ms_join.specs.Things.Thing.{atom}
 use Rattle.ms_complete.specs.declared.key.NumberedRule.{NumberedRule}
 use Rattle.ms_complete.specs.declared.key.Support.{Support}
 use Rattle.ms_complete.specs.Bases.{AddsExactly}
-use Rattle.ms_complete.specs.Numbering.{Numbering, AreDeclared, Declares, IsAtomOf, IsNewAtom, IsOfRule}
+use Rattle.ms_complete.specs.Numbering.{Numbering, AreDeclared, Declares, IsAtomOf, IsNewAtom, IsOfRule, IsFrom}
 use Rattle.ms_complete.specs.Rules.{IsAtomAt, IsNumbered, NewSay, RuleSays, AreSupports, HeadSays}
 use Rattle.ms_complete.specs.Sets.{Match}
 use Rattle.ms_complete.specs.Completing.{Completes}
 use Rattle.ms_complete.proofs.Lists.{any_weaker}
-use Rattle.ms_complete.proofs.NumberLaws.{declares_then, declares_weaker, keeps_member, numbered_stays}
+use Rattle.ms_complete.proofs.NumberLaws.{declares_then, keeps_member, numbered_stays}
 use Rattle.ms_complete.proofs.Stores.{adds_then, keeps_keys}
-use Rattle.ms_complete.proofs.Taking.{IsFrom, Declared}
+use Rattle.ms_complete.proofs.Taking.{Declared}
+use Rattle.ms_complete.proofs.Brought.{all_there}
 use Rattle.ms_complete.proofs.Completed.{are_of}
 
 -- rules stay numbered
@@ -60,6 +60,8 @@ module _ (old named atoms_in rules_in new : Numbering) (m : GroundModule) (numbe
       record {
         more = d.declares.more;
         things = d.declares.things;
+        from = d.declares.each;
+        all = all_there base new m numbered numbers d heads;
         names = d.declares.names;
         keeps = keeps_keys s0 s3 (λ n. NewSay new.things (length old.things) n ⊎ (Any (λ r. RuleSays r n) numbered ⊎ Any (λ number. HeadSays supports number n) numbers)) adds;
         completes = λ j joined can joins. are_of j joined m s0 base new numbered joins can d supports are_supports numbers heads s3 adds;

@@ -1,7 +1,7 @@
 -- Keys and the things that they stand for.
-use Rattle.std.proofs.Common.{◌≡◌, ◌≢◌, ◌∙◌, ◌⊎◌, ◌+◌, ◌<◌, ℕ, zero, suc, Bool, true, false, ◌&&◌, nat_eq, if◌then◌else◌, List, [], ◌∷◌, ◌++◌, Option, Some, None, map, length, get_or, refl, sym, ap, subst, inl, inr, arith, eq-eqb}
-use Rattle.std.specs.Prelude.{slice_get, is_some}
-use Rattle.std.specs.List.{Any, AllPairs, Contains, IsDistinct, list_any, position}
+use Rattle.std.proofs.Common.{◌≡◌, ◌≢◌, ◌∙◌, ◌⊎◌, ◌<◌, ℕ, Bool, true, false, ◌&&◌, nat_eq, if◌then◌else◌, List, [], ◌∷◌, ◌++◌, Some, map, length, get_or, refl, sym, ap, subst, inl, inr, arith, eq-eqb}
+use Rattle.std.specs.Prelude.{slice_get}
+use Rattle.std.specs.List.{AllPairs, Contains, IsDistinct, list_any, position}
 use Rattle.std.specs.Cmp.Lexicographic.{pointwise}
 use Rattle.std.proofs.lemmas.Bool.Decides.{Decides-eqb}
 use Rattle.std.proofs.lemmas.Bool.{and_parts, false≢true}
@@ -19,7 +19,7 @@ use Rattle.ms_complete.specs.declared.key.ThingKey.{ThingKey}
 use Rattle.ms_complete.specs.declared.key.ThingKey.TheVariants.{Atom, Body as BodyKey}
 use Rattle.ms_complete.specs.contracts.key.ThingKeyPartialEq.TheImpl.{eq-value}
 use Rattle.ms_complete.specs.Keys.{plain, thing_in}
-use Rattle.ms_complete.proofs.Lists.{any_from, member_of, at_map, some_at, at_some, member_map, member_map_cases}
+use Rattle.ms_complete.proofs.Lists.{any_from, member_of, at_map, member_map, member_map_cases}
 
 abbrev pub key_eq : ThingKey → ThingKey → Bool
 key_eq a b = (eq-value).it a b

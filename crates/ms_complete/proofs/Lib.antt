@@ -10,4 +10,7 @@ pub mod Carried
 pub mod Completed
 pub mod BodyLaws
 pub mod Adding
+pub mod Brought
 pub mod Extending
+pub mod LineLaws
+pub mod NoteLaws

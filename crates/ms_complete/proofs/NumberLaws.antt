@@ -1,6 +1,6 @@
 -- Declaring things one after the other.
-use Rattle.std.proofs.Common.{◌≡◌, ◌≢◌, ◌∙◌, ◌⊎◌, ◌+◌, ◌<◌, ◌≤◌, ◌^◌, ℕ, zero, suc, List, [], ◌∷◌, ◌++◌, Option, Some, None, take, length, get_or, refl, sym, ap, subst, inl, inr, arith, append_assoc, length-append}
-use Rattle.std.specs.Prelude.{slice_get, IfSome}
+use Rattle.std.proofs.Common.{◌≡◌, ◌≢◌, ◌∙◌, ◌⊎◌, ◌+◌, ◌<◌, ◌≤◌, ◌^◌, ℕ, zero, suc, List, [], ◌∷◌, ◌++◌, Option, Some, None, take, length, get_or, refl, sym, ap, subst, inl, inr, arith, append_assoc}
+use Rattle.std.specs.Prelude.{slice_get}
 use Rattle.std.specs.List.{All, AllPairs, Any, Contains}
 use Rattle.std.proofs.lemmas.List.Elements.{All-append, All-nil, All-push, All-weaker, All-cons, All-contains, Contains-append_left, Contains-push}
 use Rattle.std.proofs.lemmas.Bool.{cases_eq}
@@ -8,15 +8,15 @@ use Rattle.std.proofs.lemmas.List.{append-nil, length_push}
 use Rattle.std.proofs.lemmas.Option.{slice_get_within}
 use Rattle.ms_join.specs.declared.aggregate.SignedAgg.{SignedAgg}
 use Rattle.ms_join.specs.declared.ground_rule.GroundRule.{GroundRule}
-use Rattle.ms_join.specs.Things.{Body, Thing}
+use Rattle.ms_join.specs.Things.{Thing}
 use Rattle.ms_join.specs.Things.Thing.{atom, body, tuple, aggregate}
 use Rattle.ms_things.specs.Numbers.{IsMadeOf}
 use Rattle.ms_complete.specs.declared.key.NumberedRule.{NumberedRule}
 use Rattle.ms_complete.specs.Keys.{plain, plain_body}
-use Rattle.ms_complete.specs.Numbering.{Numbering, AreDeclared, Declares, Numbers, IsAtomOf, IsNewAtom, IsPartOf, IsOfRule, IsHeadThing}
+use Rattle.ms_complete.specs.Numbering.{Numbering, AreDeclared, Declares, Numbers, IsAtomOf, IsNewAtom, IsPartOf, IsOfRule}
 use Rattle.ms_complete.specs.Rules.{IsAtomAt, IsHeadAt, IsNumbered}
 use Rattle.ms_complete.specs.Sets.{Match}
-use Rattle.ms_complete.proofs.Lists.{any_from, any_weaker, any_left, any_right, any_cases, any_none, member_of, some_at, at_some, at_left, none_is_some, same_some, all_from, next_one}
+use Rattle.ms_complete.proofs.Lists.{any_from, any_weaker, any_left, any_none, some_at, at_some, at_left, none_is_some, same_some, next_one}
 
 pub declares_none : (n : Numbering) (Is : Thing → Type 0) → Declares Is n n
 declares_none n Is = record { more = []; things = sym (append-nil n.things); each = All-nil Is; names = refl }

@@ -1,14 +1,12 @@
 -- Adding nogoods of the program step by step.
-use Rattle.std.proofs.Common.{◌≡◌, ◌≢◌, ◌∙◌, ◌⊎◌, ℕ, List, [], ◌∷◌, ◌++◌, Option, Some, None, refl, sym, ap, subst, inl, inr}
-use Rattle.std.specs.Prelude.{◌↔◌}
+use Rattle.std.proofs.Common.{◌≡◌, ◌∙◌, ◌⊎◌, ℕ, List, [], ◌∷◌, ◌++◌, Some, refl, sym, ap, subst, inl, inr}
 use Rattle.std.specs.List.{Contains}
 use Rattle.std.proofs.lemmas.Bool.{cases_eq}
 use Rattle.std.proofs.lemmas.List.Elements.{Contains-append_left, Contains-push}
 use Rattle.ms_lits.specs.Literals.{Nogood}
-use Rattle.ms_nogood.specs.declared.kind.Kind.TheVariants.{Base}
 use Rattle.ms_nogood.specs.Store.{Store, Stored, Adds, slot_at}
 use Rattle.ms_complete.proofs.Lists.{none_is_some, same_some}
-use Rattle.ms_complete.specs.Bases.{base_of, HasBase, HasExactly, AddsExactly, KeepsKeys}
+use Rattle.ms_complete.specs.Bases.{base_of, HasExactly, AddsExactly, KeepsKeys}
 
 -- no nogood has been added
 pub adds_none : (store : Store) (Is : Nogood → Type 0) → ((nogood : Nogood) → ¬ Is nogood) → AddsExactly store store Is

@@ -1,7 +1,7 @@
 -- What taking a module does to the things: they are those of the new join.
-use Rattle.std.proofs.Common.{◌≡◌, ◌≢◌, ◌∙◌, ◌⊎◌, ◌+◌, ◌<◌, ◌≤◌, ℕ, zero, suc, List, [], ◌∷◌, ◌++◌, Option, Some, None, length, refl, sym, ap, subst, inl, inr, arith}
-use Rattle.std.specs.Prelude.{slice_get, IfSome, IsSomeAnd, ◌↔◌}
-use Rattle.std.specs.List.{All, AllPairs, Any, Contains}
+use Rattle.std.proofs.Common.{◌≡◌, ◌∙◌, ◌⊎◌, ◌+◌, ◌<◌, ◌≤◌, ℕ, List, Option, Some, None, refl, sym, ap, subst, inl, inr, arith}
+use Rattle.std.specs.Prelude.{IsSomeAnd}
+use Rattle.std.specs.List.{All, Any, Contains}
 use Rattle.std.proofs.lemmas.Bool.{cases_lt}
 use Rattle.std.proofs.lemmas.List.Elements.{All-contains, Contains-append_cases, Contains-append_left}
 use Rattle.ms_join.specs.declared.ground_rule.GroundKind.{GroundKind}
@@ -12,21 +12,17 @@ use Rattle.ms_join.specs.declared.aggregate.GroundAgg.{GroundAgg}
 use Rattle.ms_join.specs.declared.aggregate.GroundElement.{GroundElement}
 use Rattle.ms_join.specs.declared.ground_module.GroundModule.{GroundModule}
 use Rattle.ms_join.specs.AnswerSets.{IsRuleOver, HasHead}
-use Rattle.ms_join.specs.Modules.{Join, IsJoin, IsJoined, IsWellFormed}
+use Rattle.ms_join.specs.Modules.{Join, IsJoined, IsWellFormed}
 use Rattle.ms_join.specs.Things.{Body, Tuple, Thing, IsThing, IsThingOf, AnyElement, AnyAggregate, body_of, condition_of, tuple_of}
 use Rattle.ms_join.specs.Things.Thing.{atom, body, tuple, aggregate}
 use Rattle.ms_things.specs.Numbers.{AreThings}
 use Rattle.ms_complete.specs.declared.key.NumberedRule.{NumberedRule}
-use Rattle.ms_complete.specs.Keys.{plain, plain_body}
-use Rattle.ms_complete.specs.Numbering.{Numbering, AreDeclared, Declares, IsAtomOf, IsNewAtom, IsPartOf, IsOfRule, IsHeadThing}
+use Rattle.ms_complete.specs.Keys.{plain_body}
+use Rattle.ms_complete.specs.Numbering.{Numbering, AreDeclared, Declares, IsAtomOf, IsNewAtom, IsOfRule, IsHeadThing, IsFrom}
 use Rattle.ms_complete.specs.Rules.{IsNumbered}
 use Rattle.ms_complete.specs.Sets.{Match}
-use Rattle.ms_complete.proofs.Lists.{any_from, any_weaker, any_left, any_right, any_cases, any_none, member_of, some_at, none_is_some}
-use Rattle.ms_complete.proofs.NumberLaws.{keeps_member, keeps_number}
-
--- what a module may declare
-abbrev pub IsFrom : GroundModule → Thing → Type 0
-IsFrom m t = IsNewAtom m.first_new m.fresh t ⊎ (Any (λ rule. IsOfRule rule t) m.rules ⊎ IsAtomOf m.heads t)
+use Rattle.ms_complete.proofs.Lists.{any_from, any_left, any_right, any_cases, any_none, member_of, some_at, none_is_some}
+use Rattle.ms_complete.proofs.NumberLaws.{keeps_member}
 
 -- the things of a module are numbered
 pub record Declared (old new : Numbering) (m : GroundModule) (rules : List NumberedRule) : Type 0 where

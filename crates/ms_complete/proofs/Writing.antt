@@ -1,17 +1,16 @@
 -- Sets of literals as nogoods, and sets of signed things as sets of literals.
-use Rattle.std.proofs.Common.{◌≡◌, ◌≢◌, ◌∙◌, ◌⊎◌, ◌<◌, ◌≤◌, ℕ, suc, Bool, List, [], ◌∷◌, ◌++◌, Option, Some, None, get_or, refl, sym, ap, subst, inl, inr, arith}
-use Rattle.std.specs.Prelude.{slice_get}
+use Rattle.std.proofs.Common.{◌≡◌, ◌≢◌, ◌∙◌, ◌<◌, ℕ, suc, Bool, List, [], ◌∷◌, ◌++◌, get_or, refl, sym, ap, subst, inl, inr, arith}
 use Rattle.std.specs.List.{All, AllPairs, Any, Contains}
 use Rattle.std.proofs.lemmas.Bool.{cases_eq, cases_lt}
 use Rattle.std.proofs.lemmas.List.{get_or_default}
-use Rattle.std.proofs.lemmas.List.Elements.{All-contains, All-contains_itself, All-cons, All-head, All-nil, All-push, All-tail, All-weaker, Contains-append_left, Contains-push, Contains-push_cases}
+use Rattle.std.proofs.lemmas.List.Elements.{All-contains, All-head, All-nil, All-push, All-tail, Contains-append_left, Contains-push, Contains-push_cases}
 use Rattle.std.proofs.lemmas.List.Kept.{AllPairs-cons}
 use Rattle.ms_lits.specs.declared.lit.Lit.{Lit}
 use Rattle.ms_lits.specs.Literals.{Nogood}
 use Rattle.ms_join.specs.Things.{Thing}
 use Rattle.ms_things.specs.Signs.{IsFor, IsNogoodOf, Signed}
 use Rattle.ms_complete.specs.Sets.{Match, Writes}
-use Rattle.ms_complete.proofs.Lists.{any_from, member_of, member_here, member_later, member_none, member_cases, some_once, all_from}
+use Rattle.ms_complete.proofs.Lists.{any_from, member_of, member_none, member_cases, some_once, all_from}
 
 abbrev pub Rises : Lit → Lit → Type 0
 Rises lit next = lit.var < next.var

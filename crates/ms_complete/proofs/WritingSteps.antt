@@ -1,13 +1,13 @@
 -- A list of literals is written one literal after the other.
-use Rattle.std.proofs.Common.{◌≡◌, ◌≢◌, ◌∙◌, ◌⊎◌, ◌+◌, ◌-◌, ◌<◌, ◌≤◌, ℕ, min, List, [], ◌∷◌, ◌++◌, Option, Some, None, take, length, get_or, refl, sym, ap, subst, inl, inr, arith}
+use Rattle.std.proofs.Common.{◌≡◌, ◌≢◌, ◌∙◌, ◌+◌, ◌-◌, ◌<◌, ◌≤◌, ℕ, min, List, [], ◌∷◌, ◌++◌, Option, Some, None, take, length, get_or, sym, ap, subst, inl, inr, arith}
 use Rattle.std.specs.Prelude.{slice_get}
 use Rattle.std.specs.List.{All, AllPairs, Contains}
 use Rattle.std.specs.List.Sorted.{IsPermutation}
-use Rattle.std.proofs.lemmas.Bool.{cases_eq, cases_lt}
+use Rattle.std.proofs.lemmas.Bool.{cases_eq}
 use Rattle.std.proofs.lemmas.List.{get_or-take, get_or_default, length-take}
-use Rattle.std.proofs.lemmas.List.Elements.{All-contains, All-nil, Contains-push}
+use Rattle.std.proofs.lemmas.List.Elements.{All-contains, All-nil}
 use Rattle.std.proofs.lemmas.List.Sorted.{Contains-permutation, IsPermutation-sym}
-use Rattle.std.proofs.lemmas.Option.{get_or_from_slice_get, slice_get-get_or, slice_get_within}
+use Rattle.std.proofs.lemmas.Option.{get_or_from_slice_get, slice_get-get_or}
 use Rattle.ms_lits.specs.declared.lit.Lit.{Lit}
 use Rattle.ms_lits.specs.Literals.{Nogood}
 use Rattle.ms_complete.specs.declared.written.Next.TheVariants.{Greater, Equal, Opposite}
@@ -15,7 +15,7 @@ use Rattle.ms_nogood.specs.Store.{Store, Adds}
 use Rattle.ms_complete.specs.Bases.{AddsExactly, base_of}
 use Rattle.ms_complete.specs.Next.{IsNext}
 use Rattle.ms_complete.specs.Sets.{Writes, IsByVar}
-use Rattle.ms_complete.proofs.Lists.{next_one, some_at, same_some, none_is_some, all_from}
+use Rattle.ms_complete.proofs.Lists.{next_one, some_at, none_is_some, all_from}
 use Rattle.ms_complete.proofs.Stores.{adds_none, adds_one}
 use Rattle.ms_complete.proofs.Writing.{Rises, same_lit, writes_once, writes_same, written_none, written_known, written_new}
 

@@ -2,7 +2,7 @@
 use Rattle.std.specs.Prelude.{ℕ, List, []}
 use Rattle.ms_join.specs.declared.ground_rule.GroundRule.{GroundRule}
 use Rattle.ms_join.specs.Things.{Body, Thing}
-use Rattle.ms_join.specs.Things.Thing.{atom, body, tuple, aggregate}
+use Rattle.ms_join.specs.Things.Thing.{atom, body}
 use Rattle.ms_complete.specs.declared.key.ThingKey.{ThingKey}
 use Rattle.ms_complete.specs.declared.key.ThingKey.TheVariants.{Atom, Body as BodyKey}
 

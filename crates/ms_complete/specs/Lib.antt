@@ -5,3 +5,5 @@ pub mod Sets
 pub mod Next
 pub mod Rules
 pub mod Completing
+pub mod Notes
+pub mod Lines

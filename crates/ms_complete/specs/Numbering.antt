@@ -1,5 +1,6 @@
 -- Things in the order of their declaration, and how it goes on.
-use Rattle.std.specs.Prelude.{ℕ, ◌≡◌, ◌≢◌, ◌<◌, ◌≤◌, ◌+◌, ◌^◌, ◌⊎◌, ◌++◌, List, Option, Some, None, All, AllPairs, Contains, length, slice_get}
+use Rattle.std.specs.Prelude.{ℕ, ◌≡◌, ◌≢◌, ◌<◌, ◌≤◌, ◌+◌, ◌^◌, ◌⊎◌, ◌++◌, List, Option, Some, None, All, AllPairs, Any, Contains, length, slice_get}
+use Rattle.ms_join.specs.declared.ground_module.GroundModule.{GroundModule}
 use Rattle.ms_join.specs.declared.ground_rule.GroundRule.{GroundRule}
 use Rattle.ms_join.specs.Things.{Body, Thing}
 use Rattle.ms_join.specs.Things.Thing.{atom, body, tuple, aggregate}
@@ -54,3 +55,7 @@ IsHeadThing (Some h) t = t ≡ atom h
 -- the body of the rule, or one of its atoms
 abbrev pub IsOfRule : GroundRule → Thing → Type 0
 IsOfRule rule t = IsPartOf (plain_body rule) t ⊎ IsHeadThing rule.head t
+
+-- a new atom of the module, one of its heads, the body of one of its rules, or an atom of such a rule
+abbrev pub IsFrom : GroundModule → Thing → Type 0
+IsFrom m t = IsNewAtom m.first_new m.fresh t ⊎ (Any (λ rule. IsOfRule rule t) m.rules ⊎ IsAtomOf m.heads t)

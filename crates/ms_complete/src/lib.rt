@@ -4,6 +4,7 @@
 mod complete;
 mod key;
 mod nogoods;
+mod notes;
 mod numbers;
 mod supports;
 mod written;

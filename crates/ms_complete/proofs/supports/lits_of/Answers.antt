@@ -1,4 +1,4 @@
-use Rattle.std.proofs.Common.{◌≡◌, ◌∙◌, ap, List, ◌∷◌, [], ◌++◌}
+use Rattle.std.proofs.Common.{◌∙◌, ap, List, ◌∷◌, [], ◌++◌}
 use Rattle.ms_lits.specs.declared.lit.Lit.{Lit}
 use Rattle.ms_complete.specs.Rules.{holds}
 use Rattle.ms_complete.proofs.SupportLaws.{lits_next_at}

@@ -1,5 +1,4 @@
 use Rattle.std.proofs.Common.{leb, ltb, rules}
-use Rattle.std.specs.List.Sorted.{IsPartitionPoint}
 use Rattle.std.proofs.lemmas.List.Sorted.{IsPartitionPoint-from_clause, IsPartitionedBy-leb, IsPartitionedBy-ltb}
 use Rattle.ms_complete.specs.declared.key.Support.{Support}
 use Rattle.ms_complete.proofs.SupportLaws.{range_order, range_own}

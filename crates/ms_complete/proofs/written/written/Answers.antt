@@ -1,4 +1,4 @@
-use Rattle.std.proofs.Common.{◌∙◌, ◌+◌, ◌-◌, List, [], Vec, Global, ap, length, sym, subst, take}
+use Rattle.std.proofs.Common.{◌∙◌, ◌+◌, ◌-◌, [], Vec, Global, ap, length, sym, subst, take}
 use Rattle.std.specs.Prelude.{option_copied, slice_get}
 use Rattle.ms_lits.specs.declared.lit.Lit.{Lit}
 use Rattle.ms_lits.specs.Literals.{Nogood}

@@ -1,5 +1,5 @@
 use Rattle.ms_complete.proofs.BodyLaws.{none_between, one_between, all_between}
-use Rattle.std.proofs.Common.{◌≡◌, ◌≤◌, length, arith}
+use Rattle.std.proofs.Common.{arith}
 use Rattle.ms_complete.proofs.complete.Complete.add_bodies.Goals as goal
 
 pub loop-number-init : goal.loop-number-init

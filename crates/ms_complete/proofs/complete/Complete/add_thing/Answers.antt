@@ -1,7 +1,6 @@
-use Rattle.std.proofs.Common.{◌≡◌, ◌≢◌, ◌∙◌, ◌<◌, List, ℕ, Some, ap, length, sym, subst}
+use Rattle.std.proofs.Common.{◌≡◌, ◌<◌, List, ℕ, Some, length, sym, subst}
 use Rattle.std.specs.Prelude.{slice_get}
-use Rattle.std.specs.List.{All, AllPairs, Contains}
-use Rattle.ms_join.specs.Things.{Thing}
+use Rattle.std.specs.List.{All, Contains}
 use Rattle.ms_join.specs.Things.Thing.{atom, body}
 use Rattle.ms_things.specs.Signs.{IsFor}
 use Rattle.ms_things.specs.Completion.{parts_of}

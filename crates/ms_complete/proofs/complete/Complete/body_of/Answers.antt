@@ -1,8 +1,8 @@
-use Rattle.std.proofs.Common.{◌≡◌, ◌∙◌, sym, subst, ap, map, List, Some, None, Bool, true, false}
+use Rattle.std.proofs.Common.{◌≡◌, ◌∙◌, sym, subst, ap, map, Some}
 use Rattle.std.specs.Prelude.{slice_get, is_some}
 use Rattle.std.specs.List.{Contains}
 use Rattle.std.proofs.lemmas.Bool.{false≢true}
-use Rattle.ms_join.specs.Things.{Thing, body_of}
+use Rattle.ms_join.specs.Things.{body_of}
 use Rattle.ms_join.specs.Things.Thing.{body}
 use Rattle.ms_complete.specs.declared.key.ThingKey.TheVariants.{Body as BodyKey}
 use Rattle.ms_complete.specs.Keys.{thing_in}

@@ -1,4 +1,4 @@
-use Rattle.std.proofs.Common.{◌≡◌, ◌+◌, ◌<◌, ◌≤◌, arith}
+use Rattle.std.proofs.Common.{arith}
 use Rattle.ms_complete.specs.Numbering.{IsNewAtom}
 use Rattle.ms_complete.proofs.NumberLaws.{declares_none, new_declared_next, new_all_next}
 use Rattle.ms_complete.proofs.complete.Complete.declare_atoms.Goals as goal

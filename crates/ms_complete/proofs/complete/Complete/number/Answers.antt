@@ -1,4 +1,4 @@
-use Rattle.std.proofs.Common.{◌≡◌, ◌<◌, ◌^◌, sym, subst, refl, map, length, List, arith}
+use Rattle.std.proofs.Common.{sym, subst, refl, map, arith}
 use Rattle.std.proofs.lemmas.List.{length-map}
 use Rattle.std.specs.List.{Contains}
 use Rattle.ms_complete.specs.Keys.{thing_in}

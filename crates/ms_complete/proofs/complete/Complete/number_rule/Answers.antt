@@ -1,5 +1,5 @@
 use Rattle.std.proofs.Common.{◌≡◌, ◌∙◌, ap, inl, inr, refl, subst, List, ℕ, Some}
-use Rattle.ms_join.specs.Things.{Body, Thing}
+use Rattle.ms_join.specs.Things.{Body}
 use Rattle.ms_join.specs.Things.Thing.{body}
 use Rattle.ms_complete.specs.Keys.{plain, plain_body}
 use Rattle.ms_complete.specs.Numbering.{IsPartOf, IsOfRule, IsHeadThing}

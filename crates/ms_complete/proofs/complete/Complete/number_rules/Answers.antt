@@ -1,4 +1,4 @@
-use Rattle.std.proofs.Common.{subst, sym, List, [], ℕ}
+use Rattle.std.proofs.Common.{subst, sym, List, []}
 use Rattle.std.specs.List.{Any}
 use Rattle.std.proofs.lemmas.List.{take_all}
 use Rattle.ms_join.specs.declared.ground_rule.GroundRule.{GroundRule}

@@ -1,15 +1,11 @@
-use Rattle.std.proofs.Common.{◌≡◌, ◌∙◌, sym, subst, ap, List, Some, None, map, Bool, true, false}
+use Rattle.std.proofs.Common.{◌≡◌, ◌∙◌, sym, subst, ap, Some}
 use Rattle.std.specs.Prelude.{slice_get, is_some}
 use Rattle.std.specs.List.{Contains}
 use Rattle.std.proofs.lemmas.Bool.{false≢true}
-use Rattle.ms_join.specs.Things.{Thing}
 use Rattle.ms_join.specs.Things.Thing.{atom}
 use Rattle.ms_complete.specs.declared.key.ThingKey.TheVariants.{Atom}
 use Rattle.ms_complete.specs.Numbering.{Numbering}
 use Rattle.ms_complete.proofs.KeyLaws.{any_from_there, place_is}
-use Rattle.ms_complete.proofs.Stores.{has_after}
-use Rattle.ms_complete.proofs.Writing.{nogood_from}
-use Rattle.ms_complete.proofs.Taking.{are_things}
 use Rattle.ms_complete.proofs.complete.Complete.thing_of.Goals as goal
 
 pub unreachable-requires : goal.unreachable-requires
