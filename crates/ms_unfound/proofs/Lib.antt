@@ -1,0 +1,3 @@
+pub mod MarkLaws
+pub mod Pressing
+pub mod WriteLaws

@@ -1,0 +1,83 @@
+ghost use Rattle.std.specs.Prelude.{◌≡◌, ◌≤◌, [], IfOk, MatchOption};
+ghost use Rattle.ms_unfound.specs.Accepted.{accepts};
+ghost use Rattle.ms_unfound.specs.Loops.{IsGiven};
+ghost use Rattle.ms_unfound.specs.Settled.{IsPressingGiven, IsSettled};
+
+use crate::part::Part;
+use crate::search::pressing_loop;
+use ms_base::memory::OutOfMemory;
+use ms_base::seq::Seq;
+use ms_lits::{Lits, Trail};
+use ms_nogood::{Theory, Verdict};
+use std::alloc::Global;
+use std::marker::Model;
+
+/// The loop nogoods of a join, within one component of one module. Contracts see the number of things and what
+/// is kept of each module that has a cyclic component.
+#[derive(Drop)]
+pub struct Unfounded {
+    alloc: Global,
+    vars: u32,
+    parts: Seq<Part>,
+}
+
+impl Model for Unfounded {
+    ghost use Rattle.std.specs.Prelude.{All};
+    ghost use Rattle.ms_unfound.specs.Parts.{Known, IsPart};
+
+    ghost Value = { Known };
+
+    ghost view = { λ u. record { vars = u.vars; parts = u.parts } };
+
+    ghost invariant = { λ u. All (IsPart u.vars) u.parts };
+}
+
+impl Unfounded {
+    /// Those of the join of no modules, which takes no memory.
+    pub fn new(alloc: Global) -> Unfounded
+        ensures { result ≡ record { vars = 0; parts = [] } }
+    {
+        Unfounded {
+            alloc,
+            vars: 0,
+            parts: Seq::new(alloc),
+        }
+    }
+
+    /// The first loop nogood that a part gives, or none exactly where all parts are settled.
+    fn pressing(&self, trail: &Trail) -> Result<Option<Lits>, OutOfMemory>
+        requires { self.now.vars ≤ trail.now.room }
+        ensures { IfOk result (λ found. MatchOption found
+            (IsSettled self.now trail.now.entries)
+            (IsPressingGiven self.now trail.now.entries)) }
+    {
+        for part in self.parts.as_slice() {
+            if let Some(nogood) = pressing_loop(self.alloc, part, trail)? {
+                return Ok(Some(nogood));
+            }
+        }
+        Ok(None)
+    }
+}
+
+impl Theory for Unfounded {
+    ghost vars = { λ u. u.vars };
+
+    ghost leans_on = { λ _ _. ⊥ };
+
+    ghost Settled = { IsSettled };
+
+    ghost Gives = { IsGiven };
+
+    ghost accepted = { λ known entries total nogood total_is settled _ given. accepts known entries total nogood total_is settled given };
+
+    /// Looks at each part anew. Quiet comes exactly on settled trails.
+    fn check(&mut self, trail: &Trail) -> Result<Verdict, OutOfMemory> {
+        match self.pressing(trail)? {
+            None => Ok(Verdict::Quiet),
+            Some(nogood) => Ok(Verdict::Nogood(nogood)),
+        }
+    }
+
+    fn back_to(&mut self, _len: usize) {}
+}
