@@ -3,3 +3,5 @@ pub mod Loops
 pub mod Settled
 pub mod Marks
 pub mod Accepted
+pub mod Members
+pub mod Taking

@@ -2,8 +2,10 @@
 #![tactic(auto)]
 
 mod marking;
+mod members;
 mod part;
 mod search;
+mod taking;
 mod unfounded;
 mod written;
 

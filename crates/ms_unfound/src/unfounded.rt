@@ -1,12 +1,20 @@
-ghost use Rattle.std.specs.Prelude.{◌≡◌, ◌≤◌, [], IfOk, MatchOption};
+ghost use Rattle.std.specs.Prelude.{◌≡◌, ◌≤◌, [], All, Contains, IfOk, MatchOption, OnErr, OnOk, length};
+ghost use Rattle.ms_join.specs.Modules.{IsWellFormed};
+ghost use Rattle.ms_join.specs.Things.{body_of};
+ghost use Rattle.ms_join.specs.Things.Thing.{atom, body};
 ghost use Rattle.ms_unfound.specs.Accepted.{accepts};
 ghost use Rattle.ms_unfound.specs.Loops.{IsGiven};
 ghost use Rattle.ms_unfound.specs.Settled.{IsPressingGiven, IsSettled};
+ghost use Rattle.ms_unfound.specs.Taking.{Takes};
 
+use crate::members::cyclic_heads;
 use crate::part::Part;
 use crate::search::pressing_loop;
+use crate::taking::part_of;
 use ms_base::memory::OutOfMemory;
 use ms_base::seq::Seq;
+use ms_complete::Complete;
+use ms_join::ground_module::GroundModule;
 use ms_lits::{Lits, Trail};
 use ms_nogood::{Theory, Verdict};
 use std::alloc::Global;
@@ -42,6 +50,25 @@ impl Unfounded {
             vars: 0,
             parts: Seq::new(alloc),
         }
+    }
+
+    /// Takes a module that the completion took: keeps what its cyclic components need. That atoms have no numbers
+    /// left counts as want of memory, and after an error nothing has changed.
+    pub fn extend(&mut self, m: &GroundModule, c: &Complete) -> Result<(), OutOfMemory>
+        requires well_formed { IsWellFormed m.now.first_new m.now }
+        requires known { self.old.vars ≤ length c.now.things }
+        requires heads { All (λ a. Contains c.now.things (atom a)) m.now.heads }
+        requires bodies { All (λ rule. Contains c.now.things (body (body_of rule))) m.now.rules }
+        ensures taken { OnOk result (Takes self.old m.now c.now.things self.new) }
+        ensures err { OnErr result (self.new ≡ self.old) }
+    {
+        let members = cyclic_heads(self.alloc, m)?;
+        if !members.atoms.is_empty() {
+            let part = part_of(self.alloc, members, m.rules.as_slice(), c)?;
+            self.parts.push(part)?;
+        }
+        self.vars = c.things();
+        Ok(())
     }
 
     /// The first loop nogood that a part gives, or none exactly where all parts are settled.
