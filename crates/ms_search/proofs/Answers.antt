@@ -1,20 +1,18 @@
 -- The answer that a settled total trail is, with its line and its own.
-use Rattle.std.proofs.Common.{ℕ, ◌≡◌, ◌<◌, ◌≤◌, ◌+◌, ◌-◌, inl, inr, List, [], ◌∷◌, ◌++◌, Option, Some, None, Bool, true, false, length, get_or, map, refl, sym, ◌∙◌, ap, subst, arith}
-use Rattle.std.specs.Prelude.{◌≢◌, All, Contains, IsTrue, filter, if◌then◌else◌, not}
-use Rattle.std.specs.List.{cons_option}
+use Rattle.std.proofs.Common.{ℕ, ◌≡◌, ◌<◌, ◌≤◌, ◌+◌, ◌-◌, inl, List, [], ◌∷◌, ◌++◌, Option, Some, None, Bool, true, false, length, get_or, refl, sym, ◌∙◌, ap, subst, arith}
+use Rattle.std.specs.Prelude.{◌≢◌, All, Contains, IsTrue, if◌then◌else◌, not}
 use Rattle.std.specs.List.Sorted.{IsPermutation}
-use Rattle.std.proofs.lemmas.List.{append-nil, get_or_default, length-append}
-use Rattle.std.proofs.lemmas.List.Elements.{All-contains, All-map, Contains-append_right, Contains-get_or, Contains-push, filter_map-append}
+use Rattle.std.proofs.lemmas.List.{append-nil, length-append}
+use Rattle.std.proofs.lemmas.List.Elements.{All-contains, All-map, Contains-append_right, Contains-push, filter_map-append}
 use Rattle.std.proofs.lemmas.List.Sorted.{All-permutation, Contains-permutation}
 use Rattle.ms_lits.specs.declared.lit.Lit.{Lit}
 use Rattle.ms_lits.specs.declared.trail.Entry.{Entry}
 use Rattle.ms_lits.specs.declared.note.Note.{Note}
 use Rattle.ms_lits.specs.declared.note.Note.TheVariants as notes
-use Rattle.ms_lits.specs.declared.note.Ending.TheVariants.{StillOpen}
-use Rattle.ms_lits.specs.Literals.{IsContained, IsRefuted, IsWhole, Nogood}
-use Rattle.ms_lits.specs.Assignment.{Assignment, HoldsIn, value_in}
+use Rattle.ms_lits.specs.Literals.{IsRefuted, IsWhole, Nogood}
+use Rattle.ms_lits.specs.Assignment.{Assignment, HoldsIn}
 use Rattle.ms_nogood.specs.Store.{Store}
-use Rattle.ms_nogood.specs.Propagation.{IsSettled, IsStored, held_in, lits_of}
+use Rattle.ms_nogood.specs.Propagation.{IsSettled, IsStored, lits_of}
 use Rattle.ms_nogood.specs.Theories.{AreRising}
 use Rattle.ms_nogood.proofs.Propagation.{held_from, held_in_set}
 use Rattle.ms_refutation.specs.Sets.{AreDecided}
@@ -22,13 +20,13 @@ use Rattle.ms_refutation.proofs.Found.{entries_derived, found_contains_none}
 use Rattle.ms_analyze.specs.Cuts.{no_entry}
 use Rattle.ms_analyze.proofs.Trails.{holds_there}
 use Rattle.ms_lawful.specs.Problems.{HasNogood, IsAdmitted, Problem, holds_under, literal_of, signs_of_atoms, true_atoms}
-use Rattle.ms_lawful.specs.Lines.{AreLines, InFullStore, IsAnswerLine, IsLine, IsOwnLine, MayFollow, Stage, Stands, answer_of, answers_in, first_stage, of_answer, of_completion, spent_for, stage_after, stored, temporary}
+use Rattle.ms_lawful.specs.Lines.{AreLines, InFullStore, IsLine, IsOwnLine, MayFollow, Stage, answer_of, answers_in, first_stage, of_answer, spent_for, stage_after, temporary}
 use Rattle.ms_lawful.proofs.Listed.{own_follows}
 use Rattle.ms_lawful.proofs.Stages.{lines_after, lines_push, stage_after-push}
 use Rattle.ms_search.specs.Engines.{AllAssigned, is_true, truth_in}
 use Rattle.ms_search.specs.Points.{AreCovered, AreLogged, IsOnTrail}
 use Rattle.ms_search.specs.Problems.{IsTarget}
-use Rattle.ms_search.proofs.Lines.{holds_within, none_standing, refuted_full, split_at, stored_full}
+use Rattle.ms_search.proofs.Lines.{holds_within, none_standing, split_at, stored_full}
 
 pub under_is : (t b : Bool) → (if t then b else (not b)) ≡ true → b ≡ t
 under_is true true is = refl
@@ -96,9 +94,7 @@ module _ (problem : Problem) (a : Assignment) (ds : List Lit) (store : Store) (l
 
   pub answer_admitted : ((nogood : Nogood) → problem.Gives nogood → HasNogood (truth_in a.entries) nogood → ⊥) → IsAdmitted problem (truth_in a.entries)
   answer_admitted accepts = record {
-    completed = λ nogood base has.
-        let one = c.standing nogood (stored (of_completion base)) in
-        none_stored one.small one.among (λ k d lt. All-contains (λ (x : Lit). IsTrue (holds_under (truth_in a.entries) x)) nogood (get_or one.small k d) has (one.contained k d lt));
+    completed = λ nogood base has. none_stored nogood (c.base nogood base) has;
     accepted = accepts;
   }
 

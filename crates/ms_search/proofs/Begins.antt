@@ -1,28 +1,27 @@
 -- How a search begins: which nogoods it has, and that they are those of its problem.
-use Rattle.std.proofs.Common.{ℕ, ◌≡◌, ◌<◌, ◌≤◌, ◌+◌, ◌-◌, ◌^◌, ◌⊎◌, inl, inr, zero, suc, List, [], ◌∷◌, ◌++◌, Option, Some, None, Bool, true, false, length, get_or, option_map, take, drop, append-nil, refl, sym, ◌∙◌, ap, subst, arith}
-use Rattle.std.specs.Prelude.{◌≢◌, All, Contains, is_some}
+use Rattle.std.proofs.Common.{ℕ, ◌≡◌, ◌<◌, ◌≤◌, ◌+◌, ◌-◌, ◌^◌, ◌⊎◌, inl, inr, zero, suc, List, [], ◌∷◌, Option, Some, None, true, false, length, get_or, option_map, take, drop, append-nil, refl, sym, ◌∙◌, ap, subst, arith}
+use Rattle.std.specs.Prelude.{All, Contains, is_some}
 use Rattle.std.specs.List.{filter_map}
 use Rattle.std.proofs.lemmas.Bool.{both_ways, cases_eq, cases_lt}
 use Rattle.std.proofs.lemmas.List.{get_or-drop, get_or-take, get_or_default, length-drop, length-take-le}
-use Rattle.std.proofs.lemmas.List.Elements.{All-contains, All-contains_itself, Contains-get_or}
+use Rattle.std.proofs.lemmas.List.Elements.{All-contains_itself}
 use Rattle.ms_lits.specs.declared.lit.Lit.{Lit}
 use Rattle.ms_lits.specs.declared.trail.Entry.{Entry}
 use Rattle.ms_lits.specs.declared.note.Note.{Note}
 use Rattle.ms_lits.specs.Literals.{Nogood}
-use Rattle.ms_nogood.specs.Store.{AreKept, Store, Stored, Trims, awake_in, holds_kept, nogood_at, slot_at}
+use Rattle.ms_nogood.specs.Store.{AreKept, Store, Stored, awake_in, holds_kept, nogood_at, slot_at}
 use Rattle.ms_nogood.specs.declared.kind.Kind.{Kind}
-use Rattle.ms_nogood.specs.declared.kind.Kind.TheVariants.{Base, Kept, Temporary, Reason}
 use Rattle.ms_nogood.specs.Propagation.{IsStored, IsWithin}
 use Rattle.ms_nogood.specs.Theories.{BeginWith}
 use Rattle.ms_nogood.proofs.Propagation.{awake_same}
 use Rattle.ms_refutation.specs.Sets.{ContainsOne}
 use Rattle.ms_lawful.specs.Problems.{Problem}
-use Rattle.ms_lawful.specs.Lines.{InStore, Stands, kept_before, kept_now, of_completion, of_theory, stored, temporary}
+use Rattle.ms_lawful.specs.Lines.{Stands, kept_before, kept_now, of_completion, of_theory, stored, temporary}
 use Rattle.ms_lawful.specs.Parts.{last_of, most_kept}
 use Rattle.ms_lawful.proofs.Lists.{Contains-cons, Contains-cons_cases, Contains-filter_map, Contains-here, Contains-none, filter_map-Contains}
 use Rattle.ms_search.specs.Points.{AreCovered, AreLogged, GoesOn, IsKnown, IsOnTrail, IsPoint, Point}
 use Rattle.ms_search.specs.Posed.{IsPosed}
-use Rattle.ms_search.specs.Problems.{AreLasting, IsBase, kept_nogoods, literals_at}
+use Rattle.ms_search.specs.Problems.{AreLasting, kept_nogoods, literals_at}
 use Rattle.ms_search.specs.Runs.{Begins, empty_trail}
 use Rattle.ms_search.proofs.Lists.{filter_map-alike, filter_map-drop, filter_map-length}
 use Rattle.ms_search.proofs.Readies.{logged_begun, trail_begun}

@@ -1,20 +1,17 @@
 -- How a search ends: what it tells, and what it leaves in the store.
-use Rattle.std.proofs.Common.{ℕ, ◌≡◌, ◌<◌, ◌≤◌, ◌⊎◌, inl, inr, List, [], ◌∷◌, ◌++◌, Option, Some, None, Bool, true, false, length, get_or, option_map, refl, sym, ◌∙◌, ap, subst, arith}
+use Rattle.std.proofs.Common.{ℕ, ◌≡◌, ◌⊎◌, inl, inr, List, ◌∷◌, ◌++◌, Option, Some, None, Bool, true, false, length, get_or, option_map, refl, sym, ◌∙◌, ap, subst, arith}
 use Rattle.std.specs.Prelude.{◌≢◌, All, AllPairs, Contains, IsTrue, is_some}
 use Rattle.std.specs.List.{filter_map}
-use Rattle.std.proofs.lemmas.Bool.{both_ways}
-use Rattle.ms_lits.specs.declared.lit.Lit.{Lit}
 use Rattle.ms_lits.specs.declared.note.Note.{Note}
 use Rattle.ms_lits.specs.declared.note.Note.TheVariants.{Start}
 use Rattle.ms_lits.specs.declared.note.Ending.{Ending}
 use Rattle.ms_lits.specs.declared.note.Ending.TheVariants.{Complete}
-use Rattle.ms_lits.specs.Literals.{Nogood}
-use Rattle.ms_nogood.specs.Store.{AreKept, EndsSolve, Store, Stored, awake_in, ends_by_kind, holds_kept, lasting, nogood_at, slot_at}
+use Rattle.ms_nogood.specs.Store.{AreKept, EndsSolve, Store, Stored, awake_in, ends_by_kind, holds_kept, lasting, slot_at}
 use Rattle.ms_nogood.specs.declared.kind.Kind.{Kind}
 use Rattle.ms_nogood.specs.declared.kind.Kind.TheVariants.{Base, Kept, Temporary, Reason}
 use Rattle.ms_nogood.specs.Propagation.{IsWithin}
 use Rattle.ms_lawful.specs.Problems.{Problem, true_atoms}
-use Rattle.ms_lawful.specs.Lines.{EndsFor, EndsRun, answers_in, first_stage, stage_after}
+use Rattle.ms_lawful.specs.Lines.{EndsRun, answers_in, first_stage, stage_after}
 use Rattle.ms_lawful.specs.Parts.{kept_in}
 use Rattle.ms_lawful.proofs.Listed.{lines_listed, listed_from}
 use Rattle.ms_lawful.proofs.Soundness.{complete_lists}

@@ -1,6 +1,6 @@
 -- How far a nogood is open below a level.
 use Rattle.std.proofs.Common.{ℕ, ◌≡◌, ◌<◌, ◌≤◌, ◌+◌, zero, suc, List, [], ◌∷◌, ◌++◌, Option, Some, None, length, get_or, take, option_map, refl, sym, ◌∙◌, ap, subst, arith}
-use Rattle.std.specs.Prelude.{◌≢◌, All, AllPairs, Contains}
+use Rattle.std.specs.Prelude.{◌≢◌, All, AllPairs}
 use Rattle.std.proofs.lemmas.List.{get_or-take, get_or_default, take_more}
 use Rattle.std.proofs.lemmas.List.Elements.{Contains-append_left, Contains-push}
 use Rattle.ms_lits.specs.declared.lit.Lit.{Lit}

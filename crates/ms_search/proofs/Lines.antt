@@ -1,9 +1,9 @@
 -- What the lines of a search and its store know of each other, and which lines are lawful.
-use Rattle.std.proofs.Common.{ℕ, ◌≡◌, ◌<◌, ◌≤◌, ◌+◌, ◌*◌, ◌-◌, ◌^◌, ◌⊎◌, inl, inr, zero, suc, List, [], ◌∷◌, ◌++◌, Option, Some, None, Bool, true, false, length, get_or, option_map, append_assoc, refl, sym, ◌∙◌, ap, subst, arith}
+use Rattle.std.proofs.Common.{ℕ, ◌≡◌, ◌<◌, ◌≤◌, ◌+◌, ◌*◌, ◌-◌, ◌⊎◌, inl, inr, zero, suc, List, [], ◌∷◌, ◌++◌, Option, Some, None, Bool, true, false, length, get_or, option_map, append_assoc, refl, sym, ◌∙◌, ap, subst, arith}
 use Rattle.std.specs.Prelude.{◌≢◌, All, Contains, IsTrue, not}
 use Rattle.std.specs.List.{cons_option, filter_map}
 use Rattle.std.specs.List.Sorted.{IsPermutation}
-use Rattle.std.proofs.lemmas.Bool.{both_ways, cases_eq}
+use Rattle.std.proofs.lemmas.Bool.{both_ways}
 use Rattle.std.proofs.lemmas.List.{append-nil, length-append}
 use Rattle.std.proofs.lemmas.List.Elements.{All-contains, All-contains_itself, All-weaker, Contains-append_left, Contains-get_or, Contains-push, filter_map-append}
 use Rattle.std.proofs.lemmas.List.Sorted.{All-permutation, Contains-permutation}
@@ -12,8 +12,8 @@ use Rattle.ms_lits.specs.declared.trail.Entry.{Entry}
 use Rattle.ms_lits.specs.declared.note.Note.{Note}
 use Rattle.ms_lits.specs.declared.note.Note.TheVariants as notes
 use Rattle.ms_lits.specs.Literals.{HasBothSigns, IsContained, IsNew, IsRefuted, Nogood, opposite_of}
-use Rattle.ms_lits.specs.Assignment.{Assignment, HoldsIn, IsUnitIn, up_to, value_in}
-use Rattle.ms_nogood.specs.Store.{AreKept, Store, Stored, awake_in, holds_kept, kept_after, nogood_at, slot_at}
+use Rattle.ms_lits.specs.Assignment.{Assignment, HoldsIn, IsUnitIn}
+use Rattle.ms_nogood.specs.Store.{AreKept, Store, Stored, awake_in, holds_kept, nogood_at, slot_at}
 use Rattle.ms_nogood.specs.declared.kind.Kind.{Kind}
 use Rattle.ms_nogood.specs.declared.kind.Kind.TheVariants.{Base, Kept, Temporary, Reason}
 use Rattle.ms_nogood.specs.Propagation.{IsSettled, IsStored, has_truth, held_in}
@@ -27,9 +27,8 @@ use Rattle.ms_analyze.specs.Analysis.{IsNotTemporary, is_temporary_kind}
 use Rattle.ms_analyze.specs.Cuts.{no_entry}
 use Rattle.ms_analyze.proofs.Trails.{holds_entry, placed}
 use Rattle.ms_lawful.specs.Problems.{Problem}
-use Rattle.ms_lawful.specs.Lines.{AreLines, InFullStore, InStore, IsFresh, IsKeptLine, IsLine, IsTemporaryLine, MayFollow, Stage, Stands, after, answer_of, answers_in, first_stage, kept_before, kept_now, nogood_of, nogoods_in, of_completion, of_theory, owed_after, spent_by, stage_after, standing, stored, temporary}
+use Rattle.ms_lawful.specs.Lines.{AreLines, InFullStore, InStore, IsFresh, IsLine, MayFollow, Stage, Stands, answer_of, answers_in, first_stage, kept_before, kept_now, nogood_of, nogoods_in, of_completion, of_theory, owed_after, spent_by, stage_after, standing, stored, temporary}
 use Rattle.ms_lawful.specs.Parts.{kept_by, kept_in}
-use Rattle.ms_lawful.proofs.Counts.{lines_few}
 use Rattle.ms_lawful.proofs.Listed.{temporary_answered}
 use Rattle.ms_lawful.proofs.Stages.{lines_after, lines_push, stage_after-push, stands_push_cases}
 use Rattle.ms_search.specs.Notes.{note_of}
@@ -81,7 +80,7 @@ pub contained_through : (nogood small smaller : Nogood) → IsContained nogood s
 contained_through nogood small smaller outer inner k d lt = All-contains (Contains nogood) small (get_or smaller k d) outer (inner k d lt)
 
 -- equal values give equal lists
-pub filter_map-same : (h g : ℕ → Option Nogood) (xs : List ℕ) → All (λ x. h x ≡ g x) xs → filter_map h xs ≡ filter_map g xs
+filter_map-same : (h g : ℕ → Option Nogood) (xs : List ℕ) → All (λ x. h x ≡ g x) xs → filter_map h xs ≡ filter_map g xs
 filter_map-same h g [] same = refl
 filter_map-same h g (x ∷ xs) same =
     ap (λ (o : Option Nogood). cons_option o (filter_map h xs)) (same 0 x (omega arith))
@@ -163,6 +162,7 @@ module _ (problem : Problem) (old new : Store) (lines : List Note) (lits : Nogoo
       | inr same ↦ subst (λ (x : Stored). IsKnown problem (lines ++ line ∷ []) x.kind x.lits) same (known_new problem lines kind lits other)
     ];
     standing = standing_gained;
+    base = λ nogood is. stored_gained nogood (c.base nogood is);
     within = within_gained small;
     kept = kept;
     order = order;
@@ -186,6 +186,7 @@ covered_answered problem store lines answer c = record {
     | inl before ↦ c.standing nogood before
     | inr is ↦ cc
   ];
+  base = c.base;
   within = c.within;
   kept = c.kept ∙ ap (λ (xs : List Nogood). problem.kept ++ xs) (sym (filter_map-append kept_by lines (notes.Answer answer ∷ []) ∙ append-nil (kept_in lines)));
   order = c.order;

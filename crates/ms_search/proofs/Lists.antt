@@ -1,9 +1,7 @@
 -- Lists of what keys have.
-use Rattle.std.proofs.Common.{ℕ, ◌≡◌, ◌<◌, ◌+◌, ◌-◌, ◌≤◌, ◌⊎◌, inl, inr, zero, suc, List, [], ◌∷◌, Option, Some, None, Bool, true, false, length, get_or, take, drop, refl, sym, ◌∙◌, ap, subst, arith}
-use Rattle.std.specs.Prelude.{◌≢◌, is_some}
-use Rattle.std.specs.List.{All, Contains, cons_option, filter_map}
-use Rattle.std.proofs.lemmas.Bool.{both_ways, cases_eq, cases_lt}
-use Rattle.std.proofs.lemmas.List.{get_or_default}
+use Rattle.std.proofs.Common.{ℕ, ◌≡◌, zero, suc, List, [], ◌∷◌, Option, Some, None, true, length, drop, refl, sym, ◌∙◌, ap, arith}
+use Rattle.std.specs.Prelude.{is_some}
+use Rattle.std.specs.List.{All, cons_option, filter_map}
 
 -- equal values give equal lists
 pub filter_map-alike : {X : Type 0} (h g : ℕ → Option X) (xs : List ℕ) → All (λ x. h x ≡ g x) xs → filter_map h xs ≡ filter_map g xs

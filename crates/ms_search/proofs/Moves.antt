@@ -1,37 +1,36 @@
 -- The steps of a search: each keeps what a point of it is, and leaves less to do.
-use Rattle.std.proofs.Common.{ℕ, ◌≡◌, ◌<◌, ◌≤◌, ◌+◌, ◌*◌, ◌-◌, ◌^◌, ◌⊎◌, inl, inr, List, [], ◌∷◌, ◌++◌, Option, Some, None, Bool, true, false, length, get_or, option_map, take, refl, sym, ◌∙◌, ap, subst, arith}
+use Rattle.std.proofs.Common.{ℕ, ◌≡◌, ◌<◌, ◌+◌, ◌*◌, ◌-◌, ◌^◌, ◌⊎◌, inl, inr, List, [], ◌∷◌, ◌++◌, Option, Some, None, Bool, true, false, length, get_or, option_map, take, refl, sym, ◌∙◌, ap, subst, arith}
 use Rattle.std.specs.Prelude.{◌≢◌, All, Contains, IsTrue, not}
 use Rattle.std.specs.List.Sorted.{IsPermutation}
-use Rattle.std.proofs.lemmas.List.{get_or_default, length-append}
-use Rattle.std.proofs.lemmas.List.Elements.{All-contains, All-map, Contains-get_or}
+use Rattle.std.proofs.lemmas.List.{length-append}
+use Rattle.std.proofs.lemmas.List.Elements.{All-contains, Contains-get_or}
 use Rattle.std.proofs.lemmas.List.Sorted.{All-permutation, Contains-permutation}
 use Rattle.ms_lits.specs.declared.lit.Lit.{Lit}
 use Rattle.ms_lits.specs.declared.trail.Entry.{Entry}
 use Rattle.ms_lits.specs.declared.note.Note.{Note}
 use Rattle.ms_lits.specs.declared.note.Note.TheVariants as notes
 use Rattle.ms_lits.specs.declared.note.Ending.TheVariants.{Complete, Cut}
-use Rattle.ms_lits.specs.Literals.{IsClosed, IsContained, IsNew, IsRefuted, IsWhole, Nogood, opposite_of}
+use Rattle.ms_lits.specs.Literals.{IsNew, IsRefuted, IsWhole, Nogood, opposite_of}
 use Rattle.ms_lits.specs.Assignment.{Assignment, HoldsIn, IsWholeIn, entry_made, up_to, value_in}
 use Rattle.ms_nogood.specs.Store.{Store, Stored, nogood_at}
 use Rattle.ms_nogood.specs.declared.kind.Kind.{Kind}
 use Rattle.ms_nogood.specs.declared.kind.Kind.TheVariants.{Base, Kept, Temporary, Reason}
-use Rattle.ms_nogood.specs.Propagation.{IsSettled, IsStored, IsWholeAt, Propagates, lits_of}
+use Rattle.ms_nogood.specs.Propagation.{IsSettled, IsStored, IsWholeAt, lits_of}
 use Rattle.ms_nogood.specs.Theories.{AreRising, HasOpen}
 use Rattle.ms_nogood.proofs.Propagation.{held_in_set, stored_among}
 use Rattle.ms_refutation.specs.Sets.{AreDecided, AreReasoned}
 use Rattle.ms_refutation.proofs.Found.{entries_derived, found_contains_none}
-use Rattle.ms_analyze.specs.Analysis.{HasLevel, IsAsserting, IsGreatestBelow, IsNotTemporary, IsTemporaryAt, HasTemporaryReason, is_temporary, is_temporary_kind, level_in}
-use Rattle.ms_analyze.specs.Cuts.{no_entry}
+use Rattle.ms_analyze.specs.Analysis.{IsAsserting, IsGreatestBelow, IsNotTemporary, IsTemporaryAt, is_temporary, is_temporary_kind}
 use Rattle.ms_analyze.proofs.Resolved.{refuted_more}
-use Rattle.ms_analyze.proofs.Trails.{front_entry, holds_entry, placed}
+use Rattle.ms_analyze.proofs.Trails.{front_entry, holds_entry}
 use Rattle.ms_lawful.specs.Problems.{Problem}
-use Rattle.ms_lawful.specs.Lines.{EndsRun, InFullStore, IsTheoryLine, MayFollow, answers_in, first_stage, nogoods_in, owed_after, spent_by, stage_after}
+use Rattle.ms_lawful.specs.Lines.{InFullStore, MayFollow, answers_in, first_stage, nogoods_in, stage_after}
 use Rattle.ms_lawful.proofs.Counts.{lines_few}
 use Rattle.ms_lawful.proofs.Stages.{lines_after}
 use Rattle.ms_search.specs.Engines.{HasFalse}
 use Rattle.ms_search.specs.Notes.{note_of}
 use Rattle.ms_search.specs.Points.{AreCovered, AreLogged, IsKnown, IsOnTrail, IsOver, IsPoint, IsStep, Point, TakesIn, with_decision, work}
-use Rattle.ms_search.proofs.Lines.{covered_gained, fresh_new, holds_within, less_work, logged_push, new_standing, nogoods_more, none_standing, note_answer, note_nogood, note_owed, refuted_full, refuted_lasting, temporary_after, unit_new}
+use Rattle.ms_search.proofs.Lines.{covered_gained, fresh_new, holds_within, less_work, new_standing, nogoods_more, none_standing, note_nogood, refuted_full, refuted_lasting, temporary_after, unit_new}
 use Rattle.ms_search.proofs.OnTrail.{trail_decided, trail_taken}
 
 abbrev pub point_made : Assignment → List Lit → Store → List Note → ℕ → List (List ℕ) → Point

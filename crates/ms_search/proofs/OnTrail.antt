@@ -15,7 +15,7 @@ use Rattle.ms_lits.proofs.Seen.{unassigned_entry}
 use Rattle.ms_nogood.specs.Store.{Store, Stored, awake_in, nogood_at}
 use Rattle.ms_nogood.specs.declared.kind.Kind.{Kind}
 use Rattle.ms_nogood.specs.Looks.{IsCalmIn}
-use Rattle.ms_nogood.specs.Propagation.{IsForced, IsSettled, IsWithin, Propagates}
+use Rattle.ms_nogood.specs.Propagation.{IsSettled, IsWithin, Propagates}
 use Rattle.ms_nogood.proofs.Propagation.{awake_same, settled_from}
 use Rattle.ms_refutation.specs.Sets.{AreReasoned}
 use Rattle.ms_refutation.proofs.Found.{calm_from}
@@ -25,7 +25,7 @@ use Rattle.ms_analyze.proofs.Reasoned.{reasoned_front, reasoned_more, reasoned_p
 use Rattle.ms_lawful.specs.Problems.{Problem}
 use Rattle.ms_search.specs.Jumps.{IsOpenTwice}
 use Rattle.ms_search.specs.Points.{Gains, IsDecidedAt, IsDecision, IsOnTrail, TakesIn, cut_to, with_decision}
-use Rattle.ms_search.proofs.Fronts.{IsFrontOf, Rise, front_at, front_length, front_taken, up_to_all, up_to_appended, up_to_front, up_to_has, up_to_low}
+use Rattle.ms_search.proofs.Fronts.{IsFrontOf, front_at, front_length, front_taken, up_to_all, up_to_appended, up_to_front, up_to_has, up_to_low}
 
 -- a decision, as it is seen after a cut
 decision_cut : (start ds : List Lit) (before front : List Entry) (e x : Entry) (level : ℕ) → IsDecision start ds before e → e ≡ x → before ≡ front → e.level ≤ level → IsDecision start (take level ds) front x

@@ -1,24 +1,21 @@
 -- What a search keeps stays in step with its problem, and how it begins.
-use Rattle.std.proofs.Common.{ℕ, ◌≡◌, ◌<◌, ◌≤◌, ◌^◌, ◌-◌, ◌⊎◌, inl, inr, zero, suc, List, [], ◌∷◌, ◌++◌, Option, Some, None, Bool, true, false, length, get_or, take, option_map, refl, sym, ◌∙◌, ap, subst, arith}
-use Rattle.std.specs.Prelude.{◌≢◌, All, Contains, is_some}
+use Rattle.std.proofs.Common.{ℕ, ◌≡◌, ◌<◌, ◌≤◌, ◌^◌, ◌-◌, ◌⊎◌, inl, inr, zero, suc, List, [], ◌∷◌, Option, Some, None, Bool, true, false, length, get_or, take, option_map, refl, sym, ◌∙◌, ap, subst, arith}
+use Rattle.std.specs.Prelude.{◌≢◌, is_some}
 use Rattle.std.proofs.lemmas.Bool.{both_ways, cases_eq, cases_lt}
-use Rattle.std.proofs.lemmas.List.{append-nil, get_or-take, length-take-le}
 use Rattle.std.proofs.lemmas.List.Elements.{All-cons, All-head, All-nil, All-tail}
 use Rattle.ms_lits.specs.declared.lit.Lit.{Lit}
 use Rattle.ms_lits.specs.declared.trail.Entry.{Entry}
-use Rattle.ms_lits.specs.declared.note.Note.{Note}
 use Rattle.ms_lits.specs.Literals.{Nogood}
-use Rattle.ms_lits.specs.Assignment.{Assignment, HoldsIn, IsAssignment, IsWholeIn, entry_of, up_to}
+use Rattle.ms_lits.specs.Assignment.{Assignment, HoldsIn, IsAssignment, IsWholeIn, up_to}
 use Rattle.ms_nogood.specs.Store.{Adds, Store, Stored, slot_at}
 use Rattle.ms_nogood.specs.Looks.{IsCalmIn}
 use Rattle.ms_nogood.specs.Watching.{CanAttach, HasSameLits}
 use Rattle.ms_refutation.proofs.Laws.{filter_twice}
 use Rattle.ms_nogood.specs.declared.kind.Kind.{Kind}
-use Rattle.ms_nogood.specs.declared.kind.Kind.TheVariants.{Base, Kept, Temporary, Reason}
-use Rattle.ms_nogood.specs.Propagation.{IsSettled, IsStored}
+use Rattle.ms_nogood.specs.declared.kind.Kind.TheVariants.{Base}
+use Rattle.ms_nogood.specs.Propagation.{IsStored}
 use Rattle.ms_nogood.specs.Theories.{Agree, BeginWith}
 use Rattle.ms_nogood.proofs.Propagation.{held_from}
-use Rattle.ms_refutation.specs.Sets.{ContainsOne}
 use Rattle.ms_analyze.specs.Analysis.{HasLevel}
 use Rattle.ms_analyze.specs.Cuts.{no_entry}
 use Rattle.ms_analyze.proofs.Marked.{Contains-behind, Contains-first}
@@ -106,7 +103,6 @@ goes_on_gained begun old new stored o g some other = record {
         inr (subst (λ (x : Stored). (x.kind ≢ None) × (x.kind ≢ Some Base)) one (some, other)))
     | inr apart ↦ o.added key s (sym (g.others key apart) ∙ here)
   ];
-  lasting = o.lasting;
 }
 
 -- no entry yet

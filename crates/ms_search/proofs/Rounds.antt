@@ -1,8 +1,8 @@
 -- A round of a search: it propagates, and then learns, answers, decides, or takes in what a theory gives.
-use Rattle.std.proofs.Common.{ℕ, ◌≡◌, ◌<◌, ◌≤◌, ◌+◌, ◌*◌, ◌-◌, ◌^◌, ◌⊎◌, inl, inr, List, [], ◌∷◌, ◌++◌, Option, Some, None, Bool, true, false, length, get_or, take, refl, sym, ◌∙◌, ap, subst, arith}
-use Rattle.std.specs.Prelude.{◌≢◌, All, AllPairs, Contains, IsTrue}
+use Rattle.std.proofs.Common.{ℕ, ◌≡◌, ◌<◌, ◌≤◌, ◌+◌, ◌*◌, ◌-◌, ◌^◌, ◌⊎◌, inl, inr, List, [], ◌∷◌, ◌++◌, Option, Some, None, Bool, true, false, length, get_or, refl, sym, ◌∙◌, ap, subst, arith}
+use Rattle.std.specs.Prelude.{◌≢◌, All, Contains, IsTrue}
 use Rattle.std.specs.List.Sorted.{IsPermutation}
-use Rattle.std.proofs.lemmas.List.{append-nil, length-append, take-append-le, take_all}
+use Rattle.std.proofs.lemmas.List.{append-nil, take-append-le}
 use Rattle.std.proofs.lemmas.List.Elements.{filter_map-append}
 use Rattle.ms_lits.specs.declared.lit.Lit.{Lit}
 use Rattle.ms_lits.specs.declared.trail.Entry.{Entry}
@@ -21,9 +21,8 @@ use Rattle.ms_nogood.proofs.Propagation.{propagates_longer, stored_among}
 use Rattle.ms_analyze.specs.Analysis.{HasLevel, HasTemporaryReason, IsAsserting, IsGreatestBelow, IsNotTemporary, IsTemporaryAt}
 use Rattle.ms_analyze.specs.Cuts.{no_entry}
 use Rattle.ms_lawful.specs.Problems.{HasNogood, IsAdmitted, Problem, true_atoms}
-use Rattle.ms_lawful.specs.Lines.{answers_in, first_stage, nogood_of, nogoods_in, of_completion, stage_after, stored}
+use Rattle.ms_lawful.specs.Lines.{answers_in, first_stage, nogood_of, nogoods_in}
 use Rattle.ms_lawful.proofs.Stages.{lines_after}
-use Rattle.ms_refutation.proofs.Found.{closed_more}
 use Rattle.ms_search.specs.Engines.{AllAssigned, IsReady, truth_in}
 use Rattle.ms_search.specs.Notes.{learned_kind, note_of}
 use Rattle.ms_search.specs.Points.{AreCovered, AreLogged, IsOnTrail, IsOver, IsPoint, IsRound, IsStep, IsWired, Point, TakesIn, with_decision, work}
@@ -157,8 +156,8 @@ module _ (problem : Problem) (a b : Assignment) (ds left : List Lit) (old new : 
 
 -- what is closed under the program is closed under what a theory leans on
 pub theory_closed : (problem : Problem) (store : Store) (lines : List Note) (entries : List Entry) (vars : ℕ) (leans gives : Nogood → Type 0) → IsTheoryOf problem vars leans gives → AreCovered problem store lines → IsSettled store entries → IsClosed leans (held_in entries)
-theory_closed problem store lines entries vars leans gives theory c settled =
-    closed_more (IsStored store) leans (held_in entries) (λ nogood among. c.standing nogood (stored (of_completion (theory.leans nogood among)))) settled.closed settled.none_whole
+theory_closed problem store lines entries vars leans gives theory c settled nogood among lit forces =
+    settled.closed nogood (c.base nogood (theory.leans nogood among)) lit forces
 
 has_all : (truth : ℕ → Bool) (nogood : Nogood) → HasNogood truth nogood → HasAll truth nogood
 has_all truth nogood has k d lt = under_is (get_or nogood k d).truth (truth (get_or nogood k d).var) (has k d lt)

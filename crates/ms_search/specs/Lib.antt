@@ -5,4 +5,3 @@ pub mod Notes
 pub mod Engines
 pub mod Runs
 pub mod Posed
-pub mod Needless

@@ -1,5 +1,5 @@
 -- Where a search stands: its trail, its store and its log.
-use Rattle.std.specs.Prelude.{ℕ, ◌≡◌, ◌≢◌, ◌<◌, ◌≤◌, ◌+◌, ◌-◌, ◌*◌, ◌^◌, ◌⊎◌, ◌++◌, ◌∷◌, [], suc, Bool, true, false, List, Option, Some, None, length, take, All, Contains, is_some, option_map}
+use Rattle.std.specs.Prelude.{ℕ, ◌≡◌, ◌≢◌, ◌<◌, ◌≤◌, ◌+◌, ◌-◌, ◌*◌, ◌^◌, ◌⊎◌, ◌++◌, ◌∷◌, [], suc, Bool, List, Option, Some, None, length, take, All, Contains, is_some}
 use Rattle.std.specs.List.{slice_index_or}
 use Rattle.ms_lits.specs.declared.lit.Lit.{Lit}
 use Rattle.ms_lits.specs.declared.trail.Entry.{Entry}
@@ -8,7 +8,7 @@ use Rattle.ms_lits.specs.declared.note.Note.TheVariants.{Kept, Temporary, Theory
 use Rattle.ms_lits.specs.declared.note.Ending.{Ending}
 use Rattle.ms_lits.specs.Literals.{Nogood}
 use Rattle.ms_lits.specs.Assignment.{Assignment, HoldsIn, IsAssignment, entry_made, up_to}
-use Rattle.ms_nogood.specs.Store.{AreKept, Store, Stored, ends, kept_after, nogood_at, slot_at}
+use Rattle.ms_nogood.specs.Store.{AreKept, Store, Stored, kept_after, nogood_at, slot_at}
 use Rattle.ms_nogood.specs.Propagation.{IsStored, IsWithin}
 use Rattle.ms_nogood.specs.declared.kind.Kind.{Kind}
 use Rattle.ms_nogood.specs.declared.kind.Kind.TheVariants as kinds
@@ -67,6 +67,7 @@ IsKnown problem lines (Some kinds.Reason) nogood = Contains lines (Theory nogood
 pub record AreCovered (problem : Problem) (store : Store) (lines : List Note) : Type 0 where
   pub known : (key : ℕ) (stored : Stored) → nogood_at store key ≡ Some stored → IsKnown problem lines stored.kind stored.lits
   pub standing : (nogood : Nogood) → Stands problem lines nogood → ContainsOne (IsStored store) nogood
+  pub base : (nogood : Nogood) → problem.Base nogood → IsStored store nogood
   pub within : IsWithin store problem.things
   pub kept : kept_nogoods store ≡ problem.kept ++ kept_in lines
   pub order : AreKept store.slots store.kept
@@ -85,12 +86,10 @@ pub record IsPoint (problem : Problem) (p : Point) : Type 0 where
   pub covered : AreCovered problem p.store p.lines
   pub logged : AreLogged problem p.lines p.spent p.answers
 
--- The first store has nothing that ends with a solve. Nothing of it is dropped, and what is new lasts for this solve or
--- is kept.
+-- Nothing that was in the first store is dropped, and what is new lasts for this solve or is kept.
 pub record GoesOn (begun store : Store) : Type 0 where
   pub stays : (key : ℕ) (stored : Stored) → slot_at begun key ≡ Some stored → slot_at store key ≡ Some stored
   pub added : (key : ℕ) (stored : Stored) → slot_at store key ≡ Some stored → (slot_at begun key ≡ Some stored) ⊎ ((stored.kind ≢ None) × (stored.kind ≢ Some kinds.Base))
-  pub lasting : (key : ℕ) → ends (slot_at begun key) ≡ false
 
 -- Exactly the keys of the store are attached, asleep or not.
 abbrev pub IsWired : (ℕ → Bool) → Store → Type 0

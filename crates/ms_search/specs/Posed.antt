@@ -1,5 +1,5 @@
 -- The problem that a store and a theory pose, and what a run tells of it.
-use Rattle.std.specs.Prelude.{ℕ, ◌≡◌, ◌≢◌, ◌∷◌, [], Bool, true, List, All, AllPairs, Contains}
+use Rattle.std.specs.Prelude.{ℕ, ◌≡◌, ◌≢◌, ◌∷◌, [], Bool, true, All, AllPairs, Contains}
 use Rattle.ms_lits.specs.declared.note.Note.TheVariants.{Start}
 use Rattle.ms_lits.specs.declared.note.Ending.TheVariants.{Complete}
 use Rattle.ms_lits.specs.Literals.{Nogood}

@@ -1,5 +1,5 @@
 -- What a run of the search comes to, and what it leaves.
-use Rattle.std.specs.Prelude.{ℕ, ◌≡◌, ◌≢◌, ◌<◌, ◌≤◌, ◌-◌, ◌⊎◌, ◌++◌, ◌∷◌, [], Bool, true, List, Option, Some, None, length, drop, take, Contains, is_some}
+use Rattle.std.specs.Prelude.{ℕ, ◌≡◌, ◌⊎◌, ◌++◌, ◌∷◌, [], Bool, true, List, Some, None, Contains, is_some}
 use Rattle.ms_lits.specs.declared.note.Note.{Note}
 use Rattle.ms_lits.specs.declared.note.Note.TheVariants.{Start}
 use Rattle.ms_lits.specs.Assignment.{Assignment}

@@ -6,7 +6,6 @@ mod choice;
 mod engine;
 mod jump;
 mod log;
-mod needless;
 mod order;
 mod search;
 mod steps;

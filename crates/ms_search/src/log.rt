@@ -15,8 +15,6 @@ pub(crate) struct Log {
     pub(crate) answers: Answers,
     /// How many nogoods were learned, beside those of the answers.
     pub(crate) spent: u64,
-    /// The keys of the answers' own nogoods that a later one may make needless, those of many literals first.
-    pub(crate) own: Vec<usize>,
 }
 
 impl Log {
@@ -30,7 +28,6 @@ impl Log {
             lines: Vec::new(alloc),
             answers: Seq::new(alloc),
             spent: 0,
-            own: Vec::new(alloc),
         }
     }
 

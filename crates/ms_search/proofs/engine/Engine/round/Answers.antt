@@ -1,14 +1,8 @@
-use Rattle.std.proofs.Common.{◌≡◌, List, sym, subst}
-use Rattle.std.specs.Prelude.{IfOk, IfSome}
-use Rattle.std.proofs.lemmas.Result.{IfOk-weaker}
+use Rattle.std.proofs.Common.{List, sym, subst}
 use Rattle.ms_lits.specs.declared.lit.Lit.{Lit}
-use Rattle.ms_lits.specs.declared.note.Note.{Note}
-use Rattle.ms_lits.specs.Assignment.{Assignment}
-use Rattle.ms_lawful.specs.Problems.{Problem}
-use Rattle.ms_search.specs.Engines.{point_of}
 use Rattle.ms_search.specs.Points.{IsPoint}
 use Rattle.ms_search.proofs.Moves.{point_made}
-use Rattle.ms_search.proofs.Rounds.{point_propagated, ready_propagated, round_propagated}
+use Rattle.ms_search.proofs.Rounds.{point_propagated, ready_propagated}
 use Rattle.ms_search.proofs.engine.Engine.round.Goals as goal
 
 pub conflict-requires-clause-point : goal.conflict-requires-clause-point

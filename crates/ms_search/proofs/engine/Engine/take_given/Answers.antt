@@ -1,4 +1,4 @@
-use Rattle.std.proofs.Common.{◌≡◌, ◌∷◌, ◌++◌, [], List, sym, subst}
+use Rattle.std.proofs.Common.{◌∷◌, ◌++◌, [], sym, subst}
 use Rattle.ms_lits.specs.declared.note.Note.TheVariants as notes
 use Rattle.ms_nogood.specs.declared.kind.Kind.TheVariants.{Reason}
 use Rattle.ms_search.specs.Engines.{point_of}
