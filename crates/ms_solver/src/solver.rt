@@ -1,4 +1,4 @@
-ghost use Rattle.std.specs.Prelude.{ℕ, ◌≡◌, ◌<◌, ◌≤◌, ◌↔◌, ◌++◌, [], All, AllZip, IfOk, OnOk, drop, length};
+ghost use Rattle.std.specs.Prelude.{ℕ, ◌≡◌, ◌<◌, ◌≤◌, ◌↔◌, ◌++◌, [], All, IfOk, OnOk, drop, length};
 ghost use Rattle.std.specs.List.{AllZip};
 ghost use Rattle.ms_join.specs.Composability.{IsComposable};
 ghost use Rattle.ms_join.specs.Modules.{Join, IsInput, IsJoined, IsReleased, IsWellFormed, no_join};

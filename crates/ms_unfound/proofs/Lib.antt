@@ -5,3 +5,4 @@ pub mod MemberLaws
 pub mod SupportLaws
 pub mod LoopGrowth
 pub mod PartLaws
+pub mod TakeLaws

@@ -1,12 +1,12 @@
 -- The loop nogoods of a join with a module are those of the join, and those that the module brings.
-use Rattle.std.proofs.Common.{◌≡◌, ◌≢◌, ◌∙◌, ◌⊎◌, ◌+◌, ◌<◌, ◌≤◌, ℕ, zero, suc, Bool, true, false, not, ◌&&◌, nat_eq, List, [], ◌∷◌, ◌++◌, Option, Some, None, map, get_or, refl, sym, ap, subst, inl, inr, arith}
+use Rattle.std.proofs.Common.{◌≡◌, ◌≢◌, ◌∙◌, ◌⊎◌, ◌+◌, ◌<◌, ℕ, zero, suc, Bool, false, List, [], ◌∷◌, ◌++◌, Option, Some, None, map, get_or, refl, sym, ap, subst, inl, inr, arith}
 use Rattle.std.specs.Prelude.{IfSome, IsSomeAnd, IsTrue, slice_get}
-use Rattle.std.specs.List.{All, AllPairs, Any, Contains, filter}
-use Rattle.std.proofs.lemmas.Bool.{and_parts, cases_eq, cases_lt, eqb-true, false_from_ne_true, false≢true}
-use Rattle.std.proofs.lemmas.List.Elements.{All-append, All-contains, All-cons, All-filter, All-head, All-map, All-tail, Contains-append_cases, Contains-append_left, Contains-append_right, Contains-get_or, filter-append}
+use Rattle.std.specs.List.{All, AllPairs, Contains, filter}
+use Rattle.std.proofs.lemmas.Bool.{and_parts, cases_eq, cases_lt, false_from_ne_true, false≢true}
+use Rattle.std.proofs.lemmas.List.Elements.{All-contains, All-cons, All-filter, All-head, All-map, All-tail, Contains-get_or, filter-append}
 use Rattle.std.proofs.lemmas.Option.{none-some}
 use Rattle.ms_base.proofs.Lists.{Contains-behind, Contains-cases, Contains-first}
-use Rattle.ms_complete.proofs.Lists.{any_from, at_left, at_some, member_of, some_at, some_once}
+use Rattle.ms_complete.proofs.Lists.{any_from, at_left, at_some, member_of, some_once}
 use Rattle.ms_lits.specs.Literals.{Nogood}
 use Rattle.ms_join.specs.declared.ground_module.GroundModule.{GroundModule}
 use Rattle.ms_join.specs.declared.ground_rule.GroundRule.{GroundRule}
@@ -14,17 +14,17 @@ use Rattle.ms_join.specs.declared.ground_rule.GroundKind.{GroundKind}
 use Rattle.ms_join.specs.declared.ground_rule.GroundKind.TheVariants.{Normal, Choice, Constraint}
 use Rattle.ms_join.specs.declared.ground_rule.Input.{Input}
 use Rattle.ms_join.specs.AnswerSets.{HasHead, IsRuleOver}
-use Rattle.ms_join.specs.Composability.{IsComposable, IsInLoop, LoopsWith}
+use Rattle.ms_join.specs.Composability.{IsComposable}
 use Rattle.ms_join.specs.Dependencies.{AreTogether, Depends, Reaches, Walk}
 use Rattle.ms_join.specs.Modules.{Join, IsInput, IsJoin, IsJoined, IsOutput, IsWellFormed, added_rules, declared_value}
 use Rattle.ms_join.specs.Sets.{has_none}
-use Rattle.ms_join.specs.Things.{Thing, IsThing, IsThingOf, body_of}
+use Rattle.ms_join.specs.Things.{Thing, IsThingOf, body_of}
 use Rattle.ms_join.specs.Things.Thing.{atom, body}
 use Rattle.ms_things.specs.Completion.{false_bodies, has_head_in}
-use Rattle.ms_things.specs.Loops.{IsLoopNogood, IsWithinComponent, supports_from_outside}
+use Rattle.ms_things.specs.Loops.{IsLoopNogood, supports_from_outside}
 use Rattle.ms_things.specs.Numbers.{AreThings}
 use Rattle.ms_things.specs.Signs.{IsFor, IsNogoodOf, Signed, minus, plus}
-use Rattle.ms_cone.proofs.Walks.{DependsBy, depends_below, depends_cases, depends_left, depends_right, reaches_more, reaches_self, reaches_through, rule_of}
+use Rattle.ms_cone.proofs.Walks.{DependsBy, depends_cases, depends_left, depends_right, reaches_more, reaches_self, reaches_through, rule_of}
 use Rattle.ms_unfound.specs.Taking.{IsNewLoop}
 
 -- ---- numbers of old things

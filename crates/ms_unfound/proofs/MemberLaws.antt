@@ -1,7 +1,7 @@
 -- Lists that are gone through one element after the other: members, their numbers, and rules.
-use Rattle.std.proofs.Common.{◌≡◌, ◌≢◌, ◌∙◌, ◌⊎◌, ◌+◌, ◌<◌, ◌≤◌, ℕ, Bool, List, [], ◌∷◌, ◌++◌, Option, Some, None, length, take, min, get_or, refl, sym, ap, subst, inl, inr, arith, length-append, Result, Err}
+use Rattle.std.proofs.Common.{◌≡◌, ◌≢◌, ◌∙◌, ◌⊎◌, ◌+◌, ◌<◌, ℕ, List, [], ◌∷◌, ◌++◌, Some, length, take, min, get_or, refl, sym, ap, subst, inl, inr, arith, length-append, Result, Err}
 use Rattle.std.specs.Prelude.{◌↔◌, slice_get, slice_index}
-use Rattle.std.specs.List.{All, AllPairs, Any, Contains}
+use Rattle.std.specs.List.{AllPairs, Any, Contains}
 use Rattle.std.specs.List.Sorted.{IsBinarySearchResult, IsStrictlyIncreasing}
 use Rattle.std.specs.Ordering.{nat_cmp}
 use Rattle.std.proofs.lemmas.Bool.{cases_eq, cases_lt}
@@ -11,7 +11,7 @@ use Rattle.std.proofs.lemmas.List.Elements.{Contains-append_left, Contains-get_o
 use Rattle.std.proofs.lemmas.List.Kept.{AllPairs-from_increasing}
 use Rattle.std.proofs.lemmas.List.Sorted.{searched}
 use Rattle.std.proofs.lemmas.Option.{get_or_from_slice_get, same_Some, slice_get-get_or, slice_get_within}
-use Rattle.ms_complete.proofs.Lists.{any_left, any_more_cases, any_none, any_one, any_right, at_left, at_some, member_none, next_one, some_at, some_once}
+use Rattle.ms_complete.proofs.Lists.{any_left, any_more_cases, any_none, any_right, at_some, member_none, next_one, some_at, some_once}
 use Rattle.ms_join.specs.declared.ground_rule.GroundRule.{GroundRule}
 use Rattle.ms_cone.specs.Cones.{Numbered, number_of}
 use Rattle.ms_unfound.specs.declared.members.Members.{Members}

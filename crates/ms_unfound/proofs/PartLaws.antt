@@ -1,15 +1,15 @@
 -- The loop nogoods of a part are those that its module brings, but for those of single atoms without a cycle, which are
 -- completion nogoods.
-use Rattle.std.proofs.Common.{◌≡◌, ◌≢◌, ◌∙◌, ◌⊎◌, ◌+◌, ◌<◌, ◌≤◌, ℕ, zero, suc, Bool, true, false, not, ◌&&◌, ◌||◌, nat_eq, nat_lt, cond, List, [], ◌∷◌, ◌++◌, Option, Some, None, map, length, get_or, refl, sym, ap, subst, inl, inr, arith}
-use Rattle.std.specs.Prelude.{◌↔◌, IfSome, IsTrue, slice_get, slice_index}
+use Rattle.std.proofs.Common.{◌≡◌, ◌≢◌, ◌∙◌, ◌⊎◌, ◌<◌, ◌≤◌, ℕ, zero, suc, Bool, true, false, not, ◌&&◌, ◌||◌, nat_eq, nat_lt, cond, List, [], ◌∷◌, Option, Some, None, map, length, get_or, refl, sym, ap, subst, inl, inr, arith}
+use Rattle.std.specs.Prelude.{◌↔◌, IsTrue, slice_get, slice_index}
 use Rattle.std.specs.List.{All, AllPairs, Any, Contains, filter}
-use Rattle.std.proofs.lemmas.Bool.{and_from, and_parts, cases_Bool, cases_eq, cases_lt, cond-true, eq-eqb, eqb-true, false_from_ne_true, false≢true, lt-ltb, not_from_false, not_from_true, or_cases, or_left, or_right, true_from_ne_false}
+use Rattle.std.proofs.lemmas.Bool.{and_from, and_parts, cases_lt, cond-true, eq-eqb, eqb-true, false_from_ne_true, false≢true, lt-ltb, not_from_false, or_cases, or_left, or_right}
 use Rattle.std.specs.List.{position_or_len}
 use Rattle.std.specs.Option.{option_map}
 use Rattle.std.proofs.lemmas.Bool.Decides.{Decides-eqb}
-use Rattle.std.proofs.lemmas.List.Elements.{All-contains, All-cons, All-head, All-tail, Contains-get_or}
+use Rattle.std.proofs.lemmas.List.Elements.{All-contains, All-head, All-tail, Contains-get_or}
 use Rattle.std.proofs.lemmas.List.Sums.{fails_before_first}
-use Rattle.std.proofs.lemmas.Option.{get_or_from_slice_get, none-some, same_Some, slice_get-get_or, slice_get_within}
+use Rattle.std.proofs.lemmas.Option.{none-some, same_Some, slice_get-get_or, slice_get_within}
 use Rattle.ms_base.proofs.Lists.{Contains-behind, Contains-cases, Contains-filter, Contains-filtered, Contains-first, Contains-map, passes-filtered}
 use Rattle.ms_lits.specs.declared.lit.Lit.{Lit}
 use Rattle.ms_lits.specs.Literals.{Nogood}
@@ -26,16 +26,15 @@ use Rattle.ms_things.specs.Signs.{IsFor, IsNogoodOf, Signed, minus, plus}
 use Rattle.ms_cone.specs.Cones.{IsCone, Numbered, number_of}
 use Rattle.ms_cone.proofs.Walks.{reaches_more, reaches_self, reaches_through}
 use Rattle.ms_complete.specs.Rules.{fails, holds}
-use Rattle.ms_complete.specs.Sets.{Match, Writes}
+use Rattle.ms_complete.specs.Sets.{Match}
 use Rattle.ms_complete.proofs.Lists.{all_from, any_from, at_some, member_map_cases, member_of, some_at, some_once}
 use Rattle.ms_complete.proofs.Writing.{nogood_from, writes_from}
 use Rattle.ms_unfound.specs.declared.members.Members.{Members}
 use Rattle.ms_unfound.specs.declared.part.Part.{Part}
 use Rattle.ms_unfound.specs.declared.part.Support.{Support}
-use Rattle.ms_unfound.specs.Parts.{AreInOne}
 use Rattle.ms_unfound.specs.Loops.{IsLoopOf, is_outer, outer_bodies}
-use Rattle.ms_unfound.specs.Members.{AreSelected, GoesRound, HasPassing, IsCyclic}
-use Rattle.ms_unfound.specs.Taking.{AreSupports, AreVars, IsInner, IsNewLoop, IsPartOf, IsSupportBy}
+use Rattle.ms_unfound.specs.Members.{AreSelected, GoesRound, IsCyclic}
+use Rattle.ms_unfound.specs.Taking.{AreSupports, IsNewLoop, IsPartOf, IsSupportBy}
 use Rattle.ms_unfound.proofs.LoopGrowth.{contains_or_not, head_of}
 use Rattle.ms_unfound.proofs.MemberLaws.{different}
 use Rattle.ms_unfound.proofs.Pressing.{was_false}
@@ -128,7 +127,7 @@ module _ (things : List Thing) (m : Members) (number : ℕ) (loop atoms : ℕ �
 -- ---- sets of atoms in places
 
 -- some place of the set has the atom
-in_places : (ℕ → Bool) → List ℕ → ℕ → Bool
+abbrev in_places : (ℕ → Bool) → List ℕ → ℕ → Bool
 in_places loop [] a = false
 in_places loop (x ∷ xs) a = (nat_eq x a && loop 0) || in_places (λ i. loop (suc i)) xs a
 
@@ -147,7 +146,7 @@ in_place loop (x ∷ xs) (suc i) a at inside =
     or_right (nat_eq x a && loop 0) (in_places (λ k. loop (suc k)) xs a) (in_place (λ k. loop (suc k)) xs i a at inside)
 
 -- whether the atom in a place is in the set
-at_place : (ℕ → Bool) → Option ℕ → Bool
+abbrev at_place : (ℕ → Bool) → Option ℕ → Bool
 at_place atoms None = false
 at_place atoms (Some a) = atoms a
 
@@ -184,11 +183,63 @@ has_number cone a (k, within, at) =
           let fails = fails_before_first (nat_eq a) cone.members k a before in
           absurd (false≢true (sym fails ∙ (Decides-eqb a (get_or cone.members k a)).1 (sym at)))
       | inr after ↦ (let low : position_or_len (nat_eq a) cone.members ≤ k = after in omega arith)
-    ] in
-    (
+    ] in (
       get_or cone.numbers first 0,
       ap (option_map (λ i. get_or cone.numbers i 0)) (cond-true (nat_lt first (length cone.members)) (Some first) None (lt-ltb first (length cone.members) inside)),
     )
+
+-- ---- single atoms without a cycle
+
+module _ (m : GroundModule) (things : List Thing) (cone : Numbered) (c : Members) (is : IsCone (added_rules m) m.heads cone) (selected : AreSelected cone (IsCyclic cone (added_rules m)) m.heads c)
+    (no_recursion : (a b : ℕ) → Contains m.heads a → DependsInAggregate (added_rules m) a b → ¬ AreTogether (added_rules m) a b) where
+  -- a head that is no member is on no cycle
+  on_no_cycle : (a b : ℕ) → Contains m.heads a → ¬ Contains c.atoms a → Depends (added_rules m) a b → Reaches (added_rules m) b a → ⊥
+  on_no_cycle a b head none depends back =
+      let together : AreTogether (added_rules m) a b = record { forth = reaches_more (added_rules m) a a b (reaches_self (added_rules m) a) depends; back = back } in
+      let (n, number) = has_number cone a (is.starts_are a head) in
+      let other : number_of cone b ≡ Some n = (is.components a b n number).1 together in
+      elim depends [
+        | inl in_body ↦
+            let (k, rule, within, at, (is_head, has_b)) = in_body in
+            let round : GoesRound cone n rule = record { head = a; is_head = is_head; number = number; inner = any_from (λ x. number_of cone x ≡ Some n) rule.pos b has_b other } in
+            none (selected.all a n head (record { number = number; is = (k, rule, within, at, round) }))
+        | inr in_aggregate ↦ no_recursion a b head in_aggregate together
+      ]
+
+  module _ (nogood : Nogood) (l : IsNewLoop m things nogood) (none : ¬ Contains c.atoms l.member) where
+    alone : (x : ℕ) → IsTrue (l.loop x) → l.member ≡ x
+    alone x inside =
+        let t = l.together l.member x l.has inside in
+        elim (first_step (added_rules m) t.forth.steps l.member x t.forth.walk) [
+          | inl same ↦ same
+          | inr on ↦ absurd (on_no_cycle l.member on.0 (l.heads l.member l.has) none on.1 (reaches_through (added_rules m) on.0 x l.member on.2 t.back))
+        ]
+
+    same_test : (rule : GroundRule) → Contains (added_rules m) rule → supports_from_outside l.loop rule ≡ has_head_in (nat_eq l.member) rule.head
+    same_test rule among = same_truth (supports_from_outside l.loop rule) (has_head_in (nat_eq l.member) rule.head)
+        (λ outer.
+        let (h, at, inside) = head_of l.loop rule.head (and_parts (has_head_in l.loop rule.head) (has_none l.loop rule.pos) outer).0 in
+        ap (has_head_in (nat_eq l.member)) at ∙ eq-eqb l.member h (alone h inside))
+        (λ headed.
+        let (h, at, same) = head_of (nat_eq l.member) rule.head headed in
+        let is_member : l.member ≡ h = eqb-true l.member h same in
+        and_from (has_head_in l.loop rule.head) (has_none l.loop rule.pos)
+        (ap (has_head_in l.loop) at ∙ subst (λ x. IsTrue (l.loop x)) is_member l.has)
+        (none_from l.loop rule.pos (λ x there inside.
+        on_no_cycle l.member l.member (l.heads l.member l.has) none
+        (inl (any_from (λ (r : GroundRule). (r.head ≡ Some l.member) × Contains r.pos l.member) (added_rules m) rule among (at ∙ ap Some (sym is_member), subst (Contains rule.pos) (sym (alone x inside)) there)))
+        (reaches_self (added_rules m) l.member))))
+
+    pub single : IsNogoodOf things (plus (atom l.member) ∷ false_bodies (λ rule. has_head_in (nat_eq l.member) rule.head) (added_rules m)) nogood
+    single = subst (λ (rs : List GroundRule). IsNogoodOf things (plus (atom l.member) ∷ map (λ rule. minus (body (body_of rule))) rs) nogood)
+        (filter_same (supports_from_outside l.loop) (λ rule. has_head_in (nat_eq l.member) rule.head) (added_rules m)
+        (λ k d within. same_test (get_or (added_rules m) k d) (Contains-get_or (added_rules m) k d within)))
+        l.is
+
+  -- a loop without a member is a single atom
+  pub only_singles : (nogood : Nogood) (l : IsNewLoop m things nogood) → ¬ Contains c.atoms l.member
+      → (a : ℕ) × Contains m.heads a × IsNogoodOf things (plus (atom a) ∷ false_bodies (λ rule. has_head_in (nat_eq a) rule.head) (added_rules m)) nogood
+  only_singles nogood l none = (l.member, l.heads l.member l.has, single nogood l none)
 
 -- ---- a part and its module
 
@@ -270,57 +321,10 @@ module _ (m : GroundModule) (things : List Thing) (cone : Numbered) (c : Members
             (paired things c number loop l.loop mirrors (added_rules m) part.supports l.member var of.supports thing) once nogood l.is;
       }
 
-  -- ---- single atoms without a cycle
-
-  module _ (no_recursion : (a b : ℕ) → Contains m.heads a → DependsInAggregate (added_rules m) a b → ¬ AreTogether (added_rules m) a b) where
-    -- a head that is no member is on no cycle
-    on_no_cycle : (a b : ℕ) → Contains m.heads a → ¬ Contains c.atoms a → Depends (added_rules m) a b → Reaches (added_rules m) b a → ⊥
-    on_no_cycle a b head none depends back =
-        let together : AreTogether (added_rules m) a b = record { forth = reaches_more (added_rules m) a a b (reaches_self (added_rules m) a) depends; back = back } in
-        let (n, number) = has_number cone a (is.starts_are a head) in
-        let other : number_of cone b ≡ Some n = (is.components a b n number).1 together in
-        elim depends [
-          | inl in_body ↦
-              let (k, rule, within, at, (is_head, has_b)) = in_body in
-              let round : GoesRound cone n rule = record { head = a; is_head = is_head; number = number; inner = any_from (λ x. number_of cone x ≡ Some n) rule.pos b has_b other } in
-              none (selected.all a n head (record { number = number; is = (k, rule, within, at, round) }))
-          | inr in_aggregate ↦ no_recursion a b head in_aggregate together
-        ]
-
-    module _ (nogood : Nogood) (l : IsNewLoop m things nogood) (none : ¬ Contains c.atoms l.member) where
-      alone : (x : ℕ) → IsTrue (l.loop x) → l.member ≡ x
-      alone x inside =
-          let t = l.together l.member x l.has inside in
-          elim (first_step (added_rules m) t.forth.steps l.member x t.forth.walk) [
-            | inl same ↦ same
-            | inr on ↦ absurd (on_no_cycle l.member on.0 (l.heads l.member l.has) none on.1 (reaches_through (added_rules m) on.0 x l.member on.2 t.back))
-          ]
-
-      same_test : (rule : GroundRule) → Contains (added_rules m) rule → supports_from_outside l.loop rule ≡ has_head_in (nat_eq l.member) rule.head
-      same_test rule among = same_truth (supports_from_outside l.loop rule) (has_head_in (nat_eq l.member) rule.head)
-          (λ outer.
-          let (h, at, inside) = head_of l.loop rule.head (and_parts (has_head_in l.loop rule.head) (has_none l.loop rule.pos) outer).0 in
-          ap (has_head_in (nat_eq l.member)) at ∙ eq-eqb l.member h (alone h inside))
-          (λ headed.
-          let (h, at, same) = head_of (nat_eq l.member) rule.head headed in
-          let is_member : l.member ≡ h = eqb-true l.member h same in
-          and_from (has_head_in l.loop rule.head) (has_none l.loop rule.pos)
-          (ap (has_head_in l.loop) at ∙ subst (λ x. IsTrue (l.loop x)) is_member l.has)
-          (none_from l.loop rule.pos (λ x there inside.
-          on_no_cycle l.member l.member (l.heads l.member l.has) none
-          (inl (any_from (λ (r : GroundRule). (r.head ≡ Some l.member) × Contains r.pos l.member) (added_rules m) rule among (at ∙ ap Some (sym is_member), subst (Contains rule.pos) (sym (alone x inside)) there)))
-          (reaches_self (added_rules m) l.member))))
-
-      pub single : IsNogoodOf things (plus (atom l.member) ∷ false_bodies (λ rule. has_head_in (nat_eq l.member) rule.head) (added_rules m)) nogood
-      single = subst (λ (rs : List GroundRule). IsNogoodOf things (plus (atom l.member) ∷ map (λ rule. minus (body (body_of rule))) rs) nogood)
-          (filter_same (supports_from_outside l.loop) (λ rule. has_head_in (nat_eq l.member) rule.head) (added_rules m)
-          (λ k d within. same_test (get_or (added_rules m) k d) (Contains-get_or (added_rules m) k d within)))
-          l.is
-
-    -- what a module brings is given by its part, or is what completion says of an atom
-    pub member_or_single : (nogood : Nogood) → IsNewLoop m things nogood
-        → IsLoopOf part nogood ⊎ ((a : ℕ) × Contains m.heads a × IsNogoodOf things (plus (atom a) ∷ false_bodies (λ rule. has_head_in (nat_eq a) rule.head) (added_rules m)) nogood)
-    member_or_single nogood l = elim (contains_or_not c.atoms l.member) [
-      | inl there ↦ inl (part_from_new nogood l there)
-      | inr none ↦ inr (l.member, l.heads l.member l.has, single nogood l none)
-    ]
+  -- what a module brings is given by its part, or is what completion says of an atom
+  pub member_or_single : ((a b : ℕ) → Contains m.heads a → DependsInAggregate (added_rules m) a b → ¬ AreTogether (added_rules m) a b) → (nogood : Nogood) → IsNewLoop m things nogood
+      → IsLoopOf part nogood ⊎ ((a : ℕ) × Contains m.heads a × IsNogoodOf things (plus (atom a) ∷ false_bodies (λ rule. has_head_in (nat_eq a) rule.head) (added_rules m)) nogood)
+  member_or_single no_recursion nogood l = elim (contains_or_not c.atoms l.member) [
+    | inl there ↦ inl (part_from_new nogood l there)
+    | inr none ↦ inr (only_singles m things cone c is selected no_recursion nogood l none)
+  ]

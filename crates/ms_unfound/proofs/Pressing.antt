@@ -1,10 +1,10 @@
 -- What the marks of a part say of its loops: what has no mark is a loop without support from outside, and each such loop
 -- has none.
-use Rattle.std.proofs.Common.{◌≡◌, ◌≢◌, ◌∙◌, ◌⊎◌, ◌+◌, ◌<◌, ◌≤◌, ℕ, Bool, true, false, not, ◌&&◌, nat_eq, IsTrue, List, [], ◌∷◌, Option, Some, None, map, length, get_or, refl, sym, ap, subst, inl, inr, arith}
+use Rattle.std.proofs.Common.{◌≡◌, ◌≢◌, ◌∙◌, ◌⊎◌, ◌<◌, ◌≤◌, ℕ, Bool, true, false, not, ◌&&◌, nat_eq, IsTrue, List, ◌∷◌, Option, Some, None, map, length, get_or, refl, sym, ap, subst, inl, inr, arith}
 use Rattle.std.specs.Prelude.{slice_get, slice_index}
-use Rattle.std.specs.List.{All, Any, Contains, filter}
-use Rattle.std.proofs.lemmas.Bool.{and_from, and_parts, cases_Bool, cases_eq, eq-eqb, eqb-true, false_from_ne_true, false≢true, true_from_ne_false, not_from_false, not_from_true}
-use Rattle.std.proofs.lemmas.List.Elements.{All-contains, All-contains_itself, All-weaker, Contains-get_or}
+use Rattle.std.specs.List.{All, Contains, filter}
+use Rattle.std.proofs.lemmas.Bool.{and_from, and_parts, eq-eqb, eqb-true, false_from_ne_true, false≢true, true_from_ne_false, not_from_false, not_from_true}
+use Rattle.std.proofs.lemmas.List.Elements.{All-contains, All-weaker, Contains-get_or}
 use Rattle.std.proofs.lemmas.Option.{get_or_from_slice_get, slice_get_within}
 use Rattle.ms_base.proofs.Lists.{Contains-behind, Contains-cases, Contains-filter, Contains-filtered, Contains-first, Contains-map, passes-filtered}
 use Rattle.ms_lits.specs.declared.lit.Lit.{Lit}
@@ -17,11 +17,11 @@ use Rattle.ms_complete.specs.Sets.{Writes}
 use Rattle.ms_complete.proofs.Lists.{member_map_cases, some_at}
 use Rattle.ms_unfound.specs.declared.part.Part.{Part}
 use Rattle.ms_unfound.specs.declared.part.Support.{Support}
-use Rattle.ms_unfound.specs.Parts.{AreInOne, Known, IsPart, IsSupport}
+use Rattle.ms_unfound.specs.Parts.{Known, IsPart, IsSupport}
 use Rattle.ms_unfound.specs.Loops.{IsLoopOf, is_outer, outer_bodies}
 use Rattle.ms_unfound.specs.Marks.{IsBare, IsLeast, asks, flag_at, may_hold, unmarked_in}
 use Rattle.ms_unfound.proofs.MarkLaws.{all_more}
-use Rattle.ms_unfound.specs.Settled.{IsPressing, IsPressingGiven, IsPressingLoop, IsSettled, IsSettledPart}
+use Rattle.ms_unfound.specs.Settled.{IsPressingGiven, IsPressingLoop, IsSettled, IsSettledPart}
 
 was_true : (b : Bool) → not b ≡ false → b ≡ true
 was_true true fails = refl

@@ -1,13 +1,13 @@
 -- A total assignment contains no loop nogood where its entries are settled.
-use Rattle.std.proofs.Common.{◌≡◌, ◌∙◌, ◌<◌, ℕ, Bool, true, false, List, ◌∷◌, Some, refl, sym, ap, subst, inr, get_or}
-use Rattle.std.specs.List.{All, Contains}
+use Rattle.std.proofs.Common.{◌≡◌, ◌∙◌, ◌<◌, ℕ, Bool, true, false, List, ◌∷◌, Some, refl, sym, ap, inr, get_or}
+use Rattle.std.specs.List.{Contains}
 use Rattle.std.proofs.lemmas.Bool.{false≢true}
 use Rattle.std.proofs.lemmas.List.Elements.{All-contains, All-contains_itself}
 use Rattle.std.proofs.lemmas.Option.{same_Some}
 use Rattle.ms_base.proofs.Lists.{Contains-first}
 use Rattle.ms_lits.specs.declared.lit.Lit.{Lit}
 use Rattle.ms_lits.specs.declared.trail.Entry.{Entry}
-use Rattle.ms_lits.specs.Assignment.{HoldsIn, value_in}
+use Rattle.ms_lits.specs.Assignment.{value_in}
 use Rattle.ms_lits.specs.Literals.{Nogood}
 use Rattle.ms_nogood.specs.Theories.{HasAll, IsTotal}
 use Rattle.ms_complete.specs.Rules.{fails, holds}

@@ -5,3 +5,4 @@ pub mod Marks
 pub mod Accepted
 pub mod Members
 pub mod Taking
+pub mod Laws

@@ -1,7 +1,7 @@
 -- The loop nogoods of a part.
 -- Source: Lin and Zhao, "ASSAT: computing answer sets of a logic program by SAT solvers" (2004), with bodies as in Gebser,
 -- Kaufmann and Schaub, "Conflict-driven answer set solving: from theory to practice" (2012).
-use Rattle.std.specs.Prelude.{ℕ, nat_eq, ◌≡◌, ◌<◌, ◌==◌, Bool, ◌&&◌, IsTrue, List, ◌∷◌, Some, All, Any, map, slice_get}
+use Rattle.std.specs.Prelude.{ℕ, ◌≡◌, ◌<◌, ◌==◌, Bool, ◌&&◌, IsTrue, List, ◌∷◌, Some, All, Any, map, slice_get}
 use Rattle.std.specs.List.{filter}
 use Rattle.ms_lits.specs.declared.lit.Lit.{Lit}
 use Rattle.ms_lits.specs.Literals.{Nogood}

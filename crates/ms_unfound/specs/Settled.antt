@@ -6,6 +6,8 @@ use Rattle.ms_lits.specs.declared.lit.Lit.{Lit}
 use Rattle.ms_lits.specs.declared.trail.Entry.{Entry}
 use Rattle.ms_lits.specs.Literals.{Nogood}
 use Rattle.ms_lits.specs.Assignment.{HoldsIn, value_in}
+use Rattle.ms_nogood.specs.declared.theory.Verdict.{Verdict}
+use Rattle.ms_nogood.specs.declared.theory.Verdict.TheVariants.{Quiet, Nogood as Presses}
 use Rattle.ms_unfound.specs.declared.part.Part.{Part}
 use Rattle.ms_unfound.specs.Loops.{IsGiven, IsLoopOf}
 use Rattle.ms_unfound.specs.Parts.{Known}
@@ -33,3 +35,8 @@ pub record IsPressingLoop (part : Part) (entries : List Entry) (nogood : Nogood)
 pub record IsPressingGiven (known : Known) (entries : List Entry) (nogood : Nogood) : Type 0 where
   pub given : IsGiven known nogood
   pub pressing : IsPressing entries nogood
+
+-- Quiet exactly where the entries are settled: else the nogood presses.
+abbrev pub IsExact : Known → List Entry → Verdict → Type 0
+IsExact known entries Quiet = IsSettled known entries
+IsExact known entries (Presses lits) = IsPressingGiven known entries lits

@@ -1,5 +1,5 @@
 -- What is kept of a module, and what it becomes in the join.
-use Rattle.std.specs.Prelude.{ℕ, ◌≡◌, ◌⊎◌, ◌↔◌, ◌++◌, Bool, IsTrue, List, ◌∷◌, Some, All, Any, Contains, length, slice_get, slice_index}
+use Rattle.std.specs.Prelude.{ℕ, ◌≡◌, ◌≢◌, ◌⊎◌, ◌↔◌, ◌++◌, Bool, IsTrue, List, [], ◌∷◌, Some, All, Any, Contains, length, slice_get, slice_index}
 use Rattle.ms_lits.specs.Literals.{Nogood}
 use Rattle.ms_join.specs.declared.ground_module.GroundModule.{GroundModule}
 use Rattle.ms_join.specs.declared.ground_rule.GroundRule.{GroundRule}
@@ -64,6 +64,19 @@ pub record IsPartOf (things : List Thing) (m : Members) (rules : List GroundRule
   pub atoms : AreVars things m.atoms part.atoms
   pub numbers : part.numbers ≡ m.numbers
   pub supports : AreSupports things m rules part.supports
+
+-- No head of the module is in a cyclic component.
+pub record HasNoMember (m : GroundModule) : Type 0 where
+  pub members : Members
+  pub are : AreCyclicHeads m members
+  pub none : members.atoms ≡ []
+
+-- The part is made of the heads of the module that are in cyclic components, of which there are some.
+pub record IsPartOfModule (things : List Thing) (m : GroundModule) (part : Part) : Type 0 where
+  pub members : Members
+  pub are : AreCyclicHeads m members
+  pub some : members.atoms ≢ []
+  pub of : IsPartOf things members (added_rules m) part
 
 -- A loop nogood that a module brings: its set is one of heads of the module, within one component of its rules.
 pub record IsNewLoop (m : GroundModule) (things : List Thing) (nogood : Nogood) : Type 0 where

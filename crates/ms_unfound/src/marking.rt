@@ -80,11 +80,7 @@ fn mark_on(supports: &[Support], trail: &Trail, marked: &mut [bool])
 }
 
 /// Marks for the places of a part whose atoms have support.
-pub(crate) fn supported(
-    alloc: Global,
-    part: &Part,
-    trail: &Trail,
-) -> Result<Vec<bool>, OutOfMemory>
+pub(crate) fn supported(alloc: Global, part: &Part, trail: &Trail) -> Result<Vec<bool>, OutOfMemory>
     requires { IsPart trail.now.room part.now }
     ensures { IfOk result (λ marked. IsLeast trail.now.entries part.now.supports (flag_at marked.items)) }
 {

@@ -103,12 +103,6 @@ pub(crate) fn pressing_loop(
     let marked = supported(alloc, part, trail)?;
     match first_bare(part.atoms.as_slice(), trail, marked.as_slice()) {
         None => Ok(None),
-        Some(place) => Ok(Some(nogood_at(
-            alloc,
-            part,
-            trail,
-            marked.as_slice(),
-            place,
-        )?)),
+        Some(place) => Ok(Some(nogood_at(alloc, part, trail, marked.as_slice(), place)?)),
     }
 }

@@ -1,16 +1,18 @@
 // What is kept of a module.
 ghost use Rattle.std.specs.Prelude.{ℕ, ◌≡◌, ◌≤◌, ◌<◌, ◌↔◌, All, Contains, IfOk, MatchOption, Some, length, slice_get};
+ghost use Rattle.ms_join.specs.Modules.{IsWellFormed};
 ghost use Rattle.ms_join.specs.Things.{body_of};
 ghost use Rattle.ms_join.specs.Things.Thing.{atom, body};
 ghost use Rattle.std.specs.List.Sorted.{IsStrictlyIncreasing};
-ghost use Rattle.ms_unfound.specs.Taking.{AreSupports, AreVars, IsHeadAt, IsInner, IsInnerAt, IsPartOf, IsSupportBy};
+ghost use Rattle.ms_unfound.specs.Taking.{AreSupports, AreVars, HasNoMember, IsHeadAt, IsInner, IsInnerAt, IsPartOf, IsPartOfModule, IsSupportBy};
 
-use crate::members::{Members, place_in};
+use crate::members::{Members, cyclic_heads, place_in};
 use crate::part::{Part, Places, Support};
 use ms_base::atom_id::AtomId;
 use ms_base::memory::OutOfMemory;
 use ms_base::seq::Seq;
 use ms_complete::Complete;
+use ms_join::ground_module::GroundModule;
 use ms_join::ground_rule::GroundRule;
 use ms_lits::Numbers;
 use std::alloc::Global;
@@ -143,4 +145,23 @@ pub(crate) fn part_of(
         numbers: members.numbers,
         supports,
     })
+}
+
+/// The part of a module, or none exactly where no component is cyclic.
+pub(crate) fn part_of_module(
+    alloc: Global,
+    m: &GroundModule,
+    c: &Complete,
+) -> Result<Option<Part>, OutOfMemory>
+    requires well_formed { IsWellFormed m.now.first_new m.now }
+    requires heads { All (λ a. Contains c.now.things (atom a)) m.now.heads }
+    requires bodies { All (λ rule. Contains c.now.things (body (body_of rule))) m.now.rules }
+    ensures { IfOk result (λ found. MatchOption found (HasNoMember m.now) (IsPartOfModule c.now.things m.now)) }
+{
+    let members = cyclic_heads(alloc, m)?;
+    if members.atoms.is_empty() {
+        return Ok(None);
+    }
+    let part = part_of(alloc, members, m.rules.as_slice(), c)?;
+    Ok(Some(part))
 }

@@ -1,16 +1,17 @@
-ghost use Rattle.std.specs.Prelude.{◌≡◌, ◌≤◌, [], All, Contains, IfOk, MatchOption, OnErr, OnOk, length};
-ghost use Rattle.ms_join.specs.Modules.{IsWellFormed};
+ghost use Rattle.std.specs.Prelude.{◌≡◌, ◌≤◌, [], List, All, Contains, IfOk, MatchOption, OnErr, OnOk, length};
+ghost use Rattle.ms_join.specs.Modules.{IsWellFormed, no_join};
 ghost use Rattle.ms_join.specs.Things.{body_of};
 ghost use Rattle.ms_join.specs.Things.Thing.{atom, body};
+ghost use Rattle.ms_lits.specs.declared.lit.Lit.{Lit};
+ghost use Rattle.ms_nogood.specs.Theories.{Agree, BeginWith, Judges};
 ghost use Rattle.ms_unfound.specs.Accepted.{accepts};
 ghost use Rattle.ms_unfound.specs.Loops.{IsGiven};
-ghost use Rattle.ms_unfound.specs.Settled.{IsPressingGiven, IsSettled};
-ghost use Rattle.ms_unfound.specs.Taking.{Takes};
+ghost use Rattle.ms_unfound.specs.Settled.{IsExact, IsPressingGiven, IsSettled};
+ghost use Rattle.ms_unfound.specs.Taking.{AreLoopsOf, Takes};
 
-use crate::members::cyclic_heads;
 use crate::part::Part;
 use crate::search::pressing_loop;
-use crate::taking::part_of;
+use crate::taking::part_of_module;
 use ms_base::memory::OutOfMemory;
 use ms_base::seq::Seq;
 use ms_complete::Complete;
@@ -43,7 +44,8 @@ impl Model for Unfounded {
 impl Unfounded {
     /// Those of the join of no modules, which takes no memory.
     pub fn new(alloc: Global) -> Unfounded
-        ensures { result ≡ record { vars = 0; parts = [] } }
+        ensures value { result ≡ record { vars = 0; parts = [] } }
+        ensures loops { AreLoopsOf no_join [] result }
     {
         Unfounded {
             alloc,
@@ -62,9 +64,7 @@ impl Unfounded {
         ensures taken { OnOk result (Takes self.old m.now c.now.things self.new) }
         ensures err { OnErr result (self.new ≡ self.old) }
     {
-        let members = cyclic_heads(self.alloc, m)?;
-        if !members.atoms.is_empty() {
-            let part = part_of(self.alloc, members, m.rules.as_slice(), c)?;
+        if let Some(part) = part_of_module(self.alloc, m, c)? {
             self.parts.push(part)?;
         }
         self.vars = c.things();
@@ -99,7 +99,17 @@ impl Theory for Unfounded {
     ghost accepted = { λ known entries total nogood total_is settled _ given. accepts known entries total nogood total_is settled given };
 
     /// Looks at each part anew. Quiet comes exactly on settled trails.
-    fn check(&mut self, trail: &Trail) -> Result<Verdict, OutOfMemory> {
+    fn check(&mut self, trail: &Trail) -> Result<Verdict, OutOfMemory>
+        requires room { self.old.vars ≤ trail.now.room }
+        ensures judges { IfOk result (Judges (IsSettled self.old) (IsGiven self.old) self.old.vars trail.now.entries) }
+        ensures seen { OnOk result (BeginWith trail.now.entries []) }
+        ensures vars { self.new.vars ≡ self.old.vars }
+        ensures leans_on { Agree {X = List Lit} (λ _. ⊥) (λ _. ⊥) }
+        ensures settled { Agree (IsSettled self.new) (IsSettled self.old) }
+        ensures gives { Agree (IsGiven self.new) (IsGiven self.old) }
+        ensures exact { IfOk result (IsExact self.old trail.now.entries) }
+        ensures same { self.new ≡ self.old }
+    {
         match self.pressing(trail)? {
             None => Ok(Verdict::Quiet),
             Some(nogood) => Ok(Verdict::Nogood(nogood)),

@@ -10,11 +10,7 @@ use ms_lits::{Lit, Lits};
 use std::alloc::Global;
 
 /// The nogood of an atom that holds and of bodies that don't.
-pub(crate) fn written(
-    alloc: Global,
-    atom: u32,
-    mut bodies: Vec<u32>,
-) -> Result<Lits, OutOfMemory>
+pub(crate) fn written(alloc: Global, atom: u32, mut bodies: Vec<u32>) -> Result<Lits, OutOfMemory>
     requires { ¬ Contains bodies.items atom }
     ensures { IfOk result (Writes (holds atom ∷ map fails bodies.items)) }
 {

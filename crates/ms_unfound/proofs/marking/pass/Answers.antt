@@ -1,7 +1,7 @@
 use Rattle.ms_unfound.proofs.MarkLaws.{passing_keep, passing_mark}
 use Rattle.ms_unfound.proofs.marking.pass.Goals as goal
 use Rattle.ms_unfound.proofs.marking.pass.Goals.{then-asks, else-asks}
-use Rattle.std.proofs.Common.{◌<◌, ◌∙◌, All, length, sym, subst}
+use Rattle.std.proofs.Common.{◌<◌, ◌∙◌, All, sym, subst}
 use Rattle.ms_unfound.specs.declared.part.Support.{Support}
 
 pub loop-support-preserved : goal.loop-support-preserved

@@ -4,7 +4,7 @@ use Rattle.std.specs.List.{Contains}
 use Rattle.std.proofs.lemmas.List.{take_all}
 use Rattle.ms_join.specs.declared.ground_rule.GroundRule.{GroundRule}
 use Rattle.ms_unfound.specs.Members.{IsCyclic}
-use Rattle.ms_unfound.proofs.MemberLaws.{rounds_keep, rounds_more, rounds_start}
+use Rattle.ms_unfound.proofs.MemberLaws.{rounds_keep, rounds_more}
 use Rattle.ms_unfound.proofs.members.rounds_of.Goals as goal
 use Rattle.ms_unfound.proofs.members.rounds_of.Goals.{in-Some+in_ok-push, in_default}
 

@@ -1,4 +1,4 @@
-use Rattle.std.proofs.Common.{◌≡◌, Bool, List, ℕ, sym, subst}
+use Rattle.std.proofs.Common.{Bool, List, ℕ, subst}
 use Rattle.ms_unfound.specs.Marks.{IsBare}
 use Rattle.ms_unfound.proofs.Pressing.{settled_when}
 use Rattle.ms_unfound.proofs.search.pressing_loop.Goals as goal

@@ -1,4 +1,4 @@
-use Rattle.std.proofs.Common.{◌∙◌, ◌+◌, ◌<◌, ℕ, List, get_or, length, subst, sym, take}
+use Rattle.std.proofs.Common.{◌∙◌, ◌+◌, List, subst, sym, take}
 use Rattle.std.specs.List.{Contains}
 use Rattle.ms_join.specs.declared.ground_rule.GroundRule.{GroundRule}
 use Rattle.ms_join.specs.Things.{body_of}

@@ -1,15 +1,12 @@
-use Rattle.std.proofs.Common.{◌≡◌, ◌∙◌, ◌<◌, ◌≤◌, List, Option, Some, None, get_or, length, ap, sym, subst, arith}
-use Rattle.std.specs.Prelude.{MatchOption}
+use Rattle.std.proofs.Common.{◌∙◌, List, sym, subst}
 use Rattle.std.specs.List.{All, Contains}
 use Rattle.std.proofs.lemmas.List.{take_all}
-use Rattle.std.proofs.lemmas.List.Elements.{All-contains, All-more}
+use Rattle.std.proofs.lemmas.List.Elements.{All-more}
 use Rattle.std.proofs.lemmas.Option.{MatchOption-at_some, MatchOption-at_none}
-use Rattle.ms_base.specs.declared.seq.Seq.{Seq}
-use Rattle.ms_lits.specs.declared.lit.Lit.{Lit}
 use Rattle.ms_unfound.specs.declared.part.Part.{Part}
-use Rattle.ms_unfound.specs.Parts.{IsPart, Known}
+use Rattle.ms_unfound.specs.Parts.{Known}
 use Rattle.ms_unfound.specs.Settled.{IsPressingGiven, IsPressingLoop, IsSettled, IsSettledPart}
-use Rattle.ms_unfound.proofs.Pressing.{given_from, part_in, settled_from}
+use Rattle.ms_unfound.proofs.Pressing.{given_from, settled_from}
 use Rattle.ms_unfound.proofs.unfounded.Unfounded.pressing.Goals as goal
 
 pub returns-in-Some : goal.returns-in-Some
