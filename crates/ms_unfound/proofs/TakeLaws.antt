@@ -184,12 +184,16 @@ cycle_there m members are some none = some (empty_from members.atoms (λ a there
 
 pub takes_kept : (old : Known) (m : GroundModule) (now : List Thing) → All (IsPart old.vars) old.parts → HasNoMember m → Takes old m now (record { vars = length now; parts = old.parts; seen = old.seen })
 takes_kept old m ends are none = record {
+  vars = refl;
+  seen = refl;
   loops = λ j joined things more is can. subst (λ (ts : List Thing). AreLoopsOf joined ts (record { vars = length ts; parts = old.parts; seen = old.seen })) (sym is) (loops_kept old m j joined things more can are none);
   nothing = λ _. refl;
 }
 
 pub takes_more : (old : Known) (m : GroundModule) (now : List Thing) (part : Part) → All (IsPart old.vars) old.parts → IsPartOfModule now m part → Takes old m now (record { vars = length now; parts = old.parts ++ part ∷ []; seen = old.seen })
 takes_more old m ends part are is = record {
+  vars = refl;
+  seen = refl;
   loops = λ j joined things more same can.
       subst (λ (ts : List Thing). AreLoopsOf joined ts (record { vars = length ts; parts = old.parts ++ part ∷ []; seen = old.seen })) (sym same)
       (loops_more old m j joined things more can are part (subst (λ (ts : List Thing). IsPartOfModule ts m part) same is));

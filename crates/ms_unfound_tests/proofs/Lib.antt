@@ -1,1 +1,1 @@
-pub mod TinyLaws
+pub mod Benches
