@@ -1,7 +1,8 @@
 // Modules of four atoms: three heads and an input.
-ghost use Rattle.std.specs.Prelude.{IfOk, ◌<◌, ◌≢◌, length};
+ghost use Rattle.std.specs.Prelude.{All, IfOk, ◌<◌, ◌≢◌};
 ghost use Rattle.ms_join.specs.declared.ground_rule.GroundKind.{GroundKind};
-ghost use Rattle.ms_unfound_tests.specs.Tiny.{AreTinyRules, IsTinyModule, IsTinyRule, IsTinySet};
+ghost use Rattle.ms_join.specs.Modules.{IsWellFormed};
+ghost use Rattle.ms_unfound_tests.specs.Tiny.{IsTinyRule, IsTinySet};
 
 use ms_base::atom_id::AtomId;
 use ms_base::seq::Seq;
@@ -83,7 +84,7 @@ fn rule_of(alloc: Global, row: TinyRule) -> Result<GroundRule, OutOfMemory>
 }
 
 fn rules_of(alloc: Global, rows: &[TinyRule]) -> Result<GroundRules, OutOfMemory>
-    ensures { IfOk result (AreTinyRules (length rows.now)) }
+    ensures { IfOk result (All IsTinyRule) }
 {
     let mut rules = Seq::new(alloc);
     for row in rows {
@@ -94,8 +95,7 @@ fn rules_of(alloc: Global, rows: &[TinyRule]) -> Result<GroundRules, OutOfMemory
 
 /// The module of these rules.
 pub(crate) fn module_of(alloc: Global, rows: &[TinyRule]) -> Result<GroundModule, OutOfMemory>
-    requires { length rows.now < 1000 }
-    ensures { IfOk result IsTinyModule }
+    ensures { IfOk result (IsWellFormed 0) }
 {
     let rules = rules_of(alloc, rows)?;
     Ok(GroundModule {

@@ -4,45 +4,56 @@ use crate::module::{Head, TinyRule};
 use ms_lits::Lit;
 
 const A: Head = Head::A;
+
 const B: Head = Head::B;
+
 const C: Head = Head::C;
 
 const A_HOLDS: Lit = Lit {
     var: 0,
     truth: true,
 };
+
 const A_FAILS: Lit = Lit {
     var: 0,
     truth: false,
 };
+
 const B_FAILS: Lit = Lit {
     var: 1,
     truth: false,
 };
+
 const C_FAILS: Lit = Lit {
     var: 2,
     truth: false,
 };
+
 const INPUT_FAILS: Lit = Lit {
     var: 3,
     truth: false,
 };
+
 const FIRST_FAILS: Lit = Lit {
     var: 4,
     truth: false,
 };
+
 const SECOND_FAILS: Lit = Lit {
     var: 5,
     truth: false,
 };
+
 const THIRD_HOLDS: Lit = Lit {
     var: 6,
     truth: true,
 };
+
 const THIRD_FAILS: Lit = Lit {
     var: 6,
     truth: false,
 };
+
 const FOURTH_FAILS: Lit = Lit {
     var: 7,
     truth: false,
@@ -85,13 +96,7 @@ const OUTSIDE: &[TinyRule] = &[Choice(C), From(A, B), From(B, A), From(A, C)];
 const INPUT: &[TinyRule] = &[From(A, B), From(B, A), FromInput(B)];
 
 /// a :- b. b :- a. b :- c. c :- b. c :- i.
-const TWO: &[TinyRule] = &[
-    From(A, B),
-    From(B, A),
-    From(B, C),
-    From(C, B),
-    FromInput(C),
-];
+const TWO: &[TinyRule] = &[From(A, B), From(B, A), From(B, C), From(C, B), FromInput(C)];
 
 /// a :- b. { b }.
 const NO_LOOP: &[TinyRule] = &[From(A, B), Choice(B)];
