@@ -97,6 +97,19 @@ passing_mark entries supports i old now new any next s passing less read heads a
     } in
     rw (marks, is_any) here
 
+-- a mark alone, whichever support asks for it
+module _ (entries : List Entry) (supports : List Support) (i : ℕ) (s : Support) (less : i < length supports) (read : s ≡ get_or supports i s) (now : List Bool) (asked : asks entries (flag_at now) s ≡ true) where
+  pub marking_more : IsMarking entries supports (flag_at now) → IsMarking entries supports (flag_at (set now s.head true))
+  marking_more marking other still =
+      let within = marking other still in
+      mark_within other now s.head within (asked_within entries (flag_at now) other s within asked (subst (λ (t : Support). asks entries other t ≡ false) (sym read) (still i s less)))
+
+  pub marking_fewer : All (λ (t : Support). t.head < length now) supports → unmarked_count (set now s.head true) ≤ unmarked_count now
+  marking_fewer heads =
+      let in_range : s.head < length now = subst (λ (t : Support). t.head < length now) (sym read) (heads i s less) in
+      let fewer = unmarked_count-mark now s.head in_range (asked_lacks entries (flag_at now) s asked) in
+      omega (arith, fewer)
+
 pub passed_all : (entries : List Entry) (supports : List Support) (i : ℕ) (old now : List Bool) (any : Bool) → IsPassing entries supports i old now any → length supports ≤ i → MatchBool any (unmarked_count now < unmarked_count old) (IsStill entries supports (flag_at now))
 passed_all entries supports i old now true passing long = passing.passed
 passed_all entries supports i old now false passing long = subst (λ (ss : List Support). IsStill entries ss (flag_at now)) (take_all i supports long) passing.passed

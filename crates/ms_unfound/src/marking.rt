@@ -1,6 +1,6 @@
 // Marks for the atoms of a part that have support: those in the least set that has the head of each rule whose
 // body isn't false and whose inner atoms are in the set.
-ghost use Rattle.std.specs.Prelude.{ℕ, ◌≡◌, ◌<◌, All, length, IfOk, MatchBool};
+ghost use Rattle.std.specs.Prelude.{ℕ, ◌≡◌, ◌<◌, ◌≤◌, All, length, IfOk, MatchBool};
 ghost use Rattle.ms_join.specs.Sets.{has_all};
 ghost use Rattle.ms_lits.specs.Assignment.{value_in};
 ghost use Rattle.ms_unfound.specs.Marks.{IsLeast, IsMarking, IsStill, asks, flag_at, may_hold, unmarked_count};
@@ -65,7 +65,24 @@ fn pass(supports: &[Support], trail: &Trail, marked: &mut [bool]) -> bool
     any
 }
 
-/// Marks on until no support asks for its head.
+/// Marks the head of each support that asks for it, the last one first.
+fn pass_back(supports: &[Support], trail: &Trail, marked: &mut [bool])
+    requires bodies { All (λ s. s.body < trail.now.room) supports.now }
+    requires heads { All (λ s. s.head < length marked.old) supports.now }
+    requires marking { IsMarking trail.now.entries supports.now (flag_at marked.old) }
+    ensures marking { IsMarking trail.now.entries supports.now (flag_at marked.new) }
+    ensures fewer { unmarked_count marked.new ≤ unmarked_count marked.old }
+{
+    for behind in 0..supports.len() {
+        let support = &supports[supports.len() - 1 - behind];
+        if asks(support, trail, marked) {
+            marked[support.head] = true;
+        }
+    }
+}
+
+/// Marks on until no support asks for its head. Supports often stand in the order in which they ask, or in the
+/// opposite one, so the passes alternate.
 fn mark_on(supports: &[Support], trail: &Trail, marked: &mut [bool])
     requires bodies { All (λ s. s.body < trail.now.room) supports.now }
     requires heads { All (λ s. s.head < length marked.old) supports.now }
@@ -73,6 +90,7 @@ fn mark_on(supports: &[Support], trail: &Trail, marked: &mut [bool])
     ensures { IsLeast trail.now.entries supports.now (flag_at marked.new) }
 {
     loop {
+        pass_back(supports, trail, marked);
         if !pass(supports, trail, marked) {
             return;
         }
