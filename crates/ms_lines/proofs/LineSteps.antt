@@ -203,14 +203,6 @@ end_of_end first second third a b = (a.0 ++ b.0, a.1 ∙ ap (λ xs. a.0 ++ xs) b
 pub end_dropped : (bytes last : List ℕ) (n : ℕ) → last ≡ drop n bytes → IsEndOf bytes last
 end_dropped bytes last n e = (take n bytes, sym (ap (λ xs. take n bytes ++ xs) e ∙ take-append-drop n bytes))
 
--- one line further
-module _ (first here third : Lines) (rest : List ℕ) (same : rest ≡ here.rest) where
-  pub says_on : SaysThen first None here → (item : Option Item) → SaysThen (record { text = here.text; rest = rest }) item third → SaysThen first item third
-  says_on a item b = says_later first here third item a (subst (λ r. SaysThen (record { text = here.text; rest = r }) item third) same b)
-
-  pub ends_on : IsEndOf first.rest here.rest → IsEndOf rest third.rest → IsEndOf first.rest third.rest
-  ends_on a b = end_of_end first.rest here.rest third.rest a (subst (λ r. IsEndOf r third.rest) same b)
-
 -- only `NotYet` is no item
 pub no_item : (fed : Fed) → item_of fed ≡ None → fed ≡ NotYet
 no_item (is_fed c) e = absurd (let f : ⊥ = cc in f)
@@ -252,13 +244,21 @@ lacks_first bytes last len is e = omega (arith, is.len_is, is.within, ap length 
 pub end_no_longer : (bytes last : List ℕ) → IsEndOf bytes last → length last ≤ length bytes
 end_no_longer bytes last k = omega (arith, ap length k.1, length-append k.0 last)
 
--- So far nothing was read, or at least the first line.
-abbrev pub HasRead : List ℕ → List ℕ → Type 0
-HasRead bytes rest = (rest ≡ bytes) ⊎ LacksLine bytes rest
+-- The first line of bytes ends no later than behind the first line of their end.
+first_by_end : (x : ℕ) (front last : List ℕ) → prefix_len is_in_line (front ++ last) ≤ length front + prefix_len is_in_line last → (t : Bool) → is_in_line x ≡ t → prefix_len is_in_line (x ∷ (front ++ last)) ≤ length (x ∷ front) + prefix_len is_in_line last
+first_by_end x front last h true e = let here : prefix_len is_in_line (x ∷ (front ++ last)) ≡ suc (prefix_len is_in_line (front ++ last)) = rw (e, one-add) refl in omega (arith, here, h)
+first_by_end x front last h false e = let here : prefix_len is_in_line (x ∷ (front ++ last)) ≡ 0 = rw e refl in omega (arith, here)
 
-pub read_on : (bytes here rest last : List ℕ) → HasRead bytes here → rest ≡ here → LacksLine rest last → LacksLine bytes last
-read_on bytes here rest last (inl e) same lacks = subst (λ r. LacksLine r last) (same ∙ e) lacks
-read_on bytes here rest last (inr h) same lacks = omega (arith, h, lacks, ap length same)
+first_before_end : (front last : List ℕ) → prefix_len is_in_line (front ++ last) ≤ length front + prefix_len is_in_line last
+first_before_end [] last = omega arith
+first_before_end (x ∷ front) last = first_by_end x front last (first_before_end front last) (is_in_line x) refl
+
+pub read_on : (bytes here last : List ℕ) → IsEndOf bytes here → LacksLine here last → LacksLine bytes last
+read_on bytes here last kept lacks = omega (arith, lacks, ap length kept.1, length-append kept.0 here, first_before_end kept.0 here, ap (prefix_len is_in_line) kept.1)
+
+-- a line fewer of an end
+pub shorter_end : (bytes here last : List ℕ) → IsEndOf bytes here → LacksLine here last → length last < length bytes
+shorter_end bytes here last kept lacks = omega (arith, lacks, end_no_longer bytes here kept)
 
 pub loses_item : (fed : Fed) (bytes last : List ℕ) → LacksLine bytes last → LosesLine fed bytes last
 loses_item (is_fed c) bytes last h = h
