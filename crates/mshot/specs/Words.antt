@@ -1,8 +1,8 @@
 -- The words of the program.
-use Rattle.std.specs.Prelude.{◌≡◌, List, [], ◌∷◌, map, codes, String}
+use Rattle.std.specs.Prelude.{◌≡◌, ◌⊎◌, List, [], ◌∷◌, map, codes, String}
 use Rattle.std.specs.String.{string_bytes}
 use Rattle.std.specs.declared.alloc.Global.{Global}
 
--- the word `run` alone
+-- the word `run` alone, or `log` before it
 abbrev pub AreRunWords : List (String Global) → Type 0
-AreRunWords words = map string_bytes words ≡ codes "run" ∷ []
+AreRunWords words = (map string_bytes words ≡ codes "run" ∷ []) ⊎ (map string_bytes words ≡ codes "log" ∷ codes "run" ∷ [])

@@ -1,12 +1,13 @@
 ghost use Rattle.std.specs.Prelude.{◌↔◌, IsTrue};
 ghost use Rattle.mshot.specs.Words.{AreRunWords};
 
-/// Whether the words are `run` alone.
+/// Whether the words are `run`, or `log run`.
 pub fn are_run_words(words: &[String]) -> bool
     ensures { IsTrue result ↔ AreRunWords words.now }
 {
     match words {
         [word] => word.as_str() == "run",
+        [first, word] => first.as_str() == "log" && word.as_str() == "run",
         _ => false,
     }
 }
