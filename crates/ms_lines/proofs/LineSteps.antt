@@ -95,7 +95,7 @@ module _ (ended : Bool) (more : List ℕ) where
       (lines_first bytes (subst (λ n. n < length bytes) is.len_is is.within) ∙ ap (λ n. take (prefix_len is_in_line bytes) bytes ∷ lines_in ended (drop n bytes ++ more)) (sym (add-one (prefix_len is_in_line bytes))))
 
 -- a line and the items after it
-HaveItems-line : (opened : Open) (line : List ℕ) (lines : List (List ℕ)) (said : Option Item × Open) → IsOnly (Says opened line) said → (items : List Item) (left : Open)
+pub HaveItems-line : (opened : Open) (line : List ℕ) (lines : List (List ℕ)) (said : Option Item × Open) → IsOnly (Says opened line) said → (items : List Item) (left : Open)
     → HaveItems opened (line ∷ lines) items left ↔ ((others : List Item) × (items ≡ with_item said.0 others) × HaveItems said.1 lines others left)
 unfolding HaveItems
 HaveItems-line opened line lines said only items left = (
@@ -123,6 +123,12 @@ says_later first second third item a b ended more items left = (
       let t = (b ended more s.0 left).0 s.2 in
       (t.0, s.1 ∙ t.1, t.2),
   λ h. (a ended more items left).1 (items, refl, (b ended more items left).1 h),
+)
+
+pub says_same : (first second third : Lines) → SaysThen first None second → third.text ≡ second.text → third.rest ≡ second.rest → SaysThen first None third
+says_same first second third h text rest ended more items left = (
+  λ a. let b = (h ended more items left).0 a in (b.0, b.1, subst (λ t. HaveItems t (lines_in ended (third.rest ++ more)) b.0 left) (sym text) (subst (λ r. HaveItems second.text (lines_in ended (r ++ more)) b.0 left) (sym rest) b.2)),
+  λ b. (h ended more items left).1 (b.0, b.1, subst (λ r. HaveItems second.text (lines_in ended (r ++ more)) b.0 left) rest (subst (λ t. HaveItems t (lines_in ended (third.rest ++ more)) b.0 left) text b.2)),
 )
 
 -- the same at the end
@@ -255,6 +261,11 @@ first_before_end (x ∷ front) last = first_by_end x front last (first_before_en
 
 pub read_on : (bytes here last : List ℕ) → IsEndOf bytes here → LacksLine here last → LacksLine bytes last
 read_on bytes here last kept lacks = omega (arith, lacks, ap length kept.1, length-append kept.0 here, first_before_end kept.0 here, ap (prefix_len is_in_line) kept.1)
+
+-- what holds, holds where a call failed
+pub where_err : {A E P : Type 0} (r : Result A E) → P → OnErr r P
+where_err (Ok x) p = tt
+where_err (Err e) p = p
 
 -- a line fewer of an end
 pub shorter_end : (bytes here last : List ℕ) → IsEndOf bytes here → LacksLine here last → length last < length bytes

@@ -2,7 +2,9 @@
 use Rattle.std.proofs.Common.{◌≡◌, ◌↔◌, ◌⊎◌, ℕ, zero, suc, ◌+◌, ◌-◌, Bool, true, false, eqb, List, [], ◌∷◌, ◌++◌, length, drop, take, take_while, inl, inr, Option, Some, None, Result, Ok, Err, refl, sym, ap, ◌∙◌, subst, one-add, eqb-true, arith}
 use Rattle.std.specs.Prelude.{◌||◌}
 use Rattle.std.proofs.lemmas.Bool.{true≢false, false≢true}
-use Rattle.std.proofs.lemmas.List.{take-append-drop}
+use Rattle.std.specs.List.{prefix_len}
+use Rattle.std.specs.Option.{is_some}
+use Rattle.std.proofs.lemmas.List.Folds.{length-prefix_len}
 use Rattle.ms_text.specs.declared.token.Token.{Token}
 use Rattle.ms_text.specs.declared.token.TokenKind.{TokenKind}
 use Rattle.ms_text.specs.declared.token.BadByte.{BadByte}
@@ -55,6 +57,19 @@ passed_is : (b : ℕ) (t : Bool) → is_space b ≡ t → is_passed b ≡ true �
 passed_is b true e h = inl (space_is b (eqb b 32) refl e)
 passed_is b false e h = let line_end : eqb b 10 ≡ true = rw e at h in inr (eqb-true b 10 line_end)
 
+-- what is left where such bytes are skipped
+module _ (test : ℕ → Bool) where
+  skipped_front : (bytes : List ℕ) → skipped test bytes ≡ drop (prefix_len test bytes) bytes
+  skipped_front bytes = ap (λ n. drop n bytes) (length-prefix_len test bytes)
+
+  skipped_more : (b : ℕ) (bs : List ℕ) → test b ≡ true → skipped test (b ∷ bs) ≡ skipped test bs
+  skipped_more b bs e =
+      let past : drop (prefix_len test (b ∷ bs)) (b ∷ bs) ≡ drop (prefix_len test bs) bs = rw (e, one-add) refl in
+      skipped_front (b ∷ bs) ∙ past ∙ sym (skipped_front bs)
+
+  skipped_none : (b : ℕ) (bs : List ℕ) → test b ≡ false → skipped test (b ∷ bs) ≡ b ∷ bs
+  skipped_none b bs e = rw e refl
+
 -- A line says the same with a space or a tab in front.
 module _ (b : ℕ) (space : is_space b ≡ true) (blank : is_blank b ≡ true) (line : List ℕ) where
   blank_more : IsBlank line → IsBlank (b ∷ line)
@@ -66,7 +81,7 @@ module _ (b : ℕ) (space : is_space b ≡ true) (blank : is_blank b ≡ true) (
   blank_less none = none_again zero line 1 (line_after b 1) 0 1 (rw (tokens_from, blank) at none)
 
   same_front : skipped is_space (b ∷ line) ≡ skipped is_space line
-  same_front = rw space refl
+  same_front = skipped_more is_space b line space
 
   word_more : {word rest : List ℕ} {tokens : List Token} → HasWord line word rest tokens → HasWord (b ∷ line) word rest tokens
   word_more has = record { after = has.after; at_sign = same_front ∙ has.at_sign; word_is = has.word_is; rest_is = has.rest_is; tokens_are = has.tokens_are }
@@ -108,7 +123,7 @@ none_blank : IsBlank []
 unfolding tokens_from
 none_blank = refl
 
-none_says : (item : Option Item) (left : Open) → IsLine [] (item, left) → (item, left) ≡ (None, None)
+none_says : (item : Option Item) (left : Open) → IsLine [] (item, left) → ◌≡◌ {A = Option Item × Open} (item, left) (None, None)
 none_says None None is = refl
 none_says None (Some text) is = absurd (sign_in_none is.0.has_word.after is.0.has_word.at_sign)
 none_says (Some bad_line) None is = absurd (is.not_blank none_blank)
@@ -164,7 +179,7 @@ module _ (ended : Bool) (more : List ℕ) (items : List Item) (left : Open) wher
   all_by : (b : ℕ) (bs : List ℕ) → HaveItems None (lines_in ended (bs ++ more)) items left ↔ HaveItems None (lines_in ended (skipped is_passed bs ++ more)) items left → (t : Bool) → is_passed b ≡ t
       → HaveItems None (lines_in ended (b ∷ bs ++ more)) items left ↔ HaveItems None (lines_in ended (skipped is_passed (b ∷ bs) ++ more)) items left
   all_by b bs h true e =
-      let same : skipped is_passed (b ∷ bs) ≡ skipped is_passed bs = rw e refl in
+      let same : skipped is_passed (b ∷ bs) ≡ skipped is_passed bs = skipped_more is_passed b bs e in
       let first = passes_over b e ended (bs ++ more) items left in
       subst (λ s. HaveItems None (lines_in ended (b ∷ bs ++ more)) items left ↔ HaveItems None (lines_in ended (s ++ more)) items left) (sym same) (λ x. h.0 (first.0 x), λ x. first.1 (h.1 x))
   all_by b bs h false e =
@@ -183,8 +198,8 @@ says_passed before after none still e ended more items left =
         items,
         refl,
         subst (λ t. HaveItems t (lines_in ended (after.rest ++ more)) items left) (sym still)
-        (subst (λ r. HaveItems None (lines_in ended (r ++ more)) items left) (sym e)
-        (step.0 (subst (λ t. HaveItems t (lines_in ended (before.rest ++ more)) items left) none h))),
+            (subst (λ r. HaveItems None (lines_in ended (r ++ more)) items left) (sym e)
+            (step.0 (subst (λ t. HaveItems t (lines_in ended (before.rest ++ more)) items left) none h))),
       ),
       λ h.
           subst (λ is. HasLeft before ended more is left) (sym h.1)
@@ -196,9 +211,18 @@ says_passed before after none still e ended more items left =
 
 -- No such byte is left in front.
 none_left_by : (b : ℕ) (bs : List ℕ) → BeginsNotBlank (skipped is_passed bs) → (t : Bool) → is_passed b ≡ t → BeginsNotBlank (skipped is_passed (b ∷ bs))
-none_left_by b bs h true e = let same : skipped is_passed (b ∷ bs) ≡ skipped is_passed bs = rw e refl in subst BeginsNotBlank (sym same) h
+none_left_by b bs h true e = let same : skipped is_passed (b ∷ bs) ≡ skipped is_passed bs = skipped_more is_passed b bs e in subst BeginsNotBlank (sym same) h
 none_left_by b bs h false e = let same : skipped is_passed (b ∷ bs) ≡ b ∷ bs = rw e refl in subst BeginsNotBlank (sym same) (rw e refl)
 
 pub none_left : (bytes : List ℕ) → BeginsNotBlank (skipped is_passed bytes)
 none_left [] = refl
 none_left (b ∷ bs) = none_left_by b bs (none_left bs) (is_passed b) refl
+
+-- whether a text is open
+pub not_open : (text : Open) → is_some text ≡ false → text ≡ None
+not_open None e = refl
+not_open (Some text) e = absurd (true≢false e)
+
+pub not_none : (text : Open) → is_some text ≡ true → text ≡ None → ⊥
+not_none None e h = false≢true e
+not_none (Some text) e h = cc

@@ -99,18 +99,26 @@ impl Lines {
         Ok(Fed::NotYet)
     }
 
-    /// How many bytes the next line has before its line end, where one has it. Outside of a text the spaces, tabs and line
-    /// ends before it are passed over.
+    /// How many bytes the next line has before its line end, where one has it.
     fn next_line(&mut self) -> Option<usize>
         ensures said { SaysThen self.old None self.new }
         ensures found { MatchOption result (HasNoLine self.new.rest) (IsLineLen self.new.rest) }
         ensures passed { self.new.text ≡ None → BeginsNotBlank self.new.rest }
         ensures kept { IsEndOf self.old.rest self.new.rest }
     {
+        self.pass_blanks();
+        self.rest.line_len()
+    }
+
+    /// Passes over the spaces, tabs and line ends before a line outside of a text.
+    fn pass_blanks(&mut self)
+        ensures said { SaysThen self.old None self.new }
+        ensures passed { self.new.text ≡ None → BeginsNotBlank self.new.rest }
+        ensures kept { IsEndOf self.old.rest self.new.rest }
+    {
         if self.text.is_none() {
             self.rest.pass_blanks();
         }
-        self.rest.line_len()
     }
 
     /// The next command or bad line where the script ends here: the last line may lack its line end.
