@@ -1,5 +1,5 @@
 -- What sinks gain, one put after another.
-use Rattle.std.proofs.Common.{◌≡◌, ◌∙◌, ℕ, Bool, List, [], ◌∷◌, ◌++◌, map, take, Option, Some, None, refl, sym, ap, subst, append-nil, append_assoc}
+use Rattle.std.proofs.Common.{◌≡◌, ◌∙◌, ℕ, Bool, List, [], ◌∷◌, ◌++◌, map, take, Option, Some, None, Result, Ok, Err, OnErr, refl, sym, ap, subst, append-nil, append_assoc}
 use Rattle.std.specs.List.{flat_map}
 use Rattle.std.proofs.lemmas.List.Concat.{flat_map-append}
 use Rattle.ms_io.specs.Streams.{Adds, AddsFront, AddsPiece}
@@ -54,6 +54,10 @@ puts_one before now old new piece bytes each = record { bytes = subst (λ b. Add
 
 pub fails_one : (before now : Option (List ℕ)) (old new : Option (List (List ℕ))) (piece : List ℕ) → AddsFront before piece now → new ≡ old → PutsFront [] piece (told before old) (told now new)
 fails_one before now old new piece front same = record { middle = told before old; whole = puts_none (told before old); front = front; same = same }
+
+pub failed_by : {A E : Type 0} (r : Result A E) (before now : Option (List ℕ)) (old new : Option (List (List ℕ))) (piece : List ℕ) → OnErr r (AddsFront before piece now) → OnErr r (new ≡ old) → OnErr r (PutsFront [] piece (told before old) (told now new))
+failed_by (Ok x) before now old new piece front same = tt
+failed_by (Err e) before now old new piece front same = fails_one before now old new piece front same
 
 fails_after : (a b c : Told) (pieces : List (List ℕ)) (piece : List ℕ) → Puts pieces a b → PutsFront [] piece b c → PutsFront pieces piece a c
 fails_after a b c pieces piece first next = record {

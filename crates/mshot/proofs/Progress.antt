@@ -24,8 +24,8 @@ use Rattle.mshot.proofs.Gaining.{gains_none, gains_more, fails_more}
 still : (ended : Bool) → MayCome ended ended []
 still ended = λ e. (e, refl)
 
-open : (ends : Bool) (more : List ℕ) → MayCome false ends more
-open ends more = λ e. absurd (false≢true e)
+any : (ends : Bool) (more : List ℕ) → MayCome false ends more
+any ends more = λ e. absurd (false≢true e)
 
 pub says_in_lines : (before after : Lines) (item : Option Item) → SaysThen before item after → SaysIn false before item after
 says_in_lines before after item h ends more items left may = h ends more items left
@@ -92,11 +92,11 @@ said_piece taken piece front lines after e h ends more items left may =
     let text : after.text ≡ lines.text = ap (λ l. l.text) e in
     let rest : lines_in ends (after.rest ++ more) ≡ lines_in ends (lines.rest ++ (piece ++ more)) = ap (λ l. lines_in ends (l.rest ++ more)) e ∙ ap (lines_in ends) (append_assoc lines.rest piece more) in (
       λ a.
-          let b = (h ends (piece ++ more) items left (open ends (piece ++ more))).0 (subst (λ ls. HaveItems None ls items left) whole a) in
+          let b = (h ends (piece ++ more) items left (any ends (piece ++ more))).0 (subst (λ ls. HaveItems None ls items left) whole a) in
           (b.0, b.1, subst (λ t. HaveItems t (lines_in ends (after.rest ++ more)) b.0 left) (sym text) (subst (λ ls. HaveItems lines.text ls b.0 left) (sym rest) b.2)),
       λ b.
           subst (λ ls. HaveItems None ls items left) (sym whole)
-          ((h ends (piece ++ more) items left (open ends (piece ++ more))).1 (b.0, b.1, subst (λ ls. HaveItems lines.text ls b.0 left) rest (subst (λ t. HaveItems t (lines_in ends (after.rest ++ more)) b.0 left) text b.2))),
+          ((h ends (piece ++ more) items left (any ends (piece ++ more))).1 (b.0, b.1, subst (λ ls. HaveItems lines.text ls b.0 left) rest (subst (λ t. HaveItems t (lines_in ends (after.rest ++ more)) b.0 left) text b.2))),
     )
 
 module _ (ended : Bool) (taken : List ℕ) (front : List Item) (lines after : Lines) (said : HasSaid ended taken front lines) where
@@ -182,6 +182,9 @@ module _ (ended : Bool) (taken : List ℕ) (before now : Sinks) (lines : Lines) 
       ends = fails_more done.outputs before now next done.gains answer step.output step.texts status failed;
     }
 
+pub served_first_none : (ended : Bool) (taken : List ℕ) (before now : Sinks) (lines : Lines) (state : State) (some : Bool) → HasServed ended taken before now lines state some → HasServed ended taken before now lines state (some || false)
+served_first_none ended taken before now lines state some done = subst (λ s. HasServed ended taken before now lines state s) (sym (or-false some)) done
+
 -- whether a text is open at the end
 abbrev cut_off : Output
 cut_off = record { reply = refused Unfinished; log = [] }
@@ -209,7 +212,7 @@ module _ (taken : List ℕ) (before now : Sinks) (lines : Lines) (state : State)
   pub served_ended : HasServed true taken before now lines state some
   served_ended = record {
     front = done.front;
-    said = λ ends more items left may. done.said ends more items left (open ends more);
+    said = λ ends more items left may. done.said ends more items left (any ends more);
     outputs = done.outputs;
     run = done.run;
     gains = done.gains;

@@ -9,7 +9,7 @@ use Rattle.mshot.specs.declared.status.Status.{Status}
 use Rattle.mshot.specs.declared.status.Status.TheVariants.{Done, SomeRefused, Usage, ReadFault, WriteFault, LogFault, TooLong, NoMemory}
 use Rattle.mshot.specs.Sinks.{Sinks}
 use Rattle.mshot.specs.Outcome.{most_bytes, IsTaken, HasStopped, Serves, IsAfterReading, IsOfPutting, IsComplete, AnswersLines}
-use Rattle.mshot.specs.Serving.{HasServed, TakesPiece, Finishes}
+use Rattle.mshot.specs.Serving.{HasServed, TakesPiece, Finishes, AnswersAll}
 use Rattle.mshot.proofs.Progress.{answers_lines, stopped_between}
 
 -- the first n bytes were taken
@@ -39,7 +39,7 @@ pub taken_all : (script : List ℕ) (n : ℕ) → n ≤ length script → drop n
 taken_all script n within none =
     let over : length script - n ≡ 0 = sym (length-drop n script) ∙ ap length none in
     let all : n ≡ length script = omega arith in
-    (take_all n script (λ h. omega (arith, h, all)), all)
+    (take_all n script (omega (arith, all)), all)
 
 module _ (script : List ℕ) (n : ℕ) (left : Option (List ℕ)) (before now : Sinks) (within : n ≤ length script) (few : n ≤ most_bytes) where
   -- a call that ended at a put
@@ -55,18 +55,18 @@ module _ (script : List ℕ) (n : ℕ) (left : Option (List ℕ)) (before now : 
 
   -- a read that failed, or that gave a byte too many
   module _ (lines : Lines) (state : State) (some : Bool) (done : HasServed false (take n script) before now lines state some) (none : HasNoLine lines.rest) where
-    pub serves_taken : (status : Status) → TakesPiece n (Err status) (drop n script) left [] → (status ≡ ReadFault) → Serves status script left before now
-    serves_taken status piece is = subst (λ s. Serves s script left before now) (sym is) (record {
+    pub serves_taken : (status : Status) (buffer : List ℕ) → TakesPiece n (Err status) (drop n script) left buffer → (status ≡ ReadFault) → Serves status script left before now
+    serves_taken status buffer piece is = subst (λ s. Serves s script left before now) (sym is) (record {
       taken = take n script;
-      is_taken = taken_front script n left within few (subst (λ s. TakesPiece n (Err s) (drop n script) left []) is piece);
+      is_taken = taken_front script n left within few (subst (λ s. TakesPiece n (Err s) (drop n script) left buffer) is piece);
       outputs = done.outputs;
       answers = answers_lines (take n script) before now lines state some done none;
       gains = done.gains;
     })
 
-    pub serves_most : (status : Status) → TakesPiece n (Err status) (drop n script) left [] → (status ≡ TooLong) → Serves status script left before now
-    serves_most status piece is =
-        let over = subst (λ s. TakesPiece n (Err s) (drop n script) left []) is piece in
+    pub serves_most : (status : Status) (buffer : List ℕ) → TakesPiece n (Err status) (drop n script) left buffer → (status ≡ TooLong) → Serves status script left before now
+    serves_most status buffer piece is =
+        let over = subst (λ s. TakesPiece n (Err s) (drop n script) left buffer) is piece in
         subst (λ s. Serves s script left before now) (sym is) (record {
           long = omega (arith, over.0, over.1, length-drop n script);
           others = over.2 ∙ ap Some (drop-drop 1 n script) ∙ ap (λ m. Some (drop (m + 1) script)) over.0;
@@ -95,3 +95,38 @@ serves_finished script n left before now within few others none NoMemory after h
 serves_finished script n left before now within few others none Usage after h = absurd after
 serves_finished script n left before now within few others none ReadFault after h = absurd after
 serves_finished script n left before now within few others none TooLong after h = absurd after
+
+-- without a fault, and where the script isn't too long
+pub complete_by : (status : Status) (script : List ℕ) (left : Option (List ℕ)) (before now : Sinks) → Serves status script left before now → length script ≤ most_bytes → (status ≡ ReadFault → ⊥) → (status ≡ WriteFault → ⊥) → (status ≡ LogFault → ⊥) → IsComplete status
+complete_by Done script left before now h few read write log = tt
+complete_by SomeRefused script left before now h few read write log = tt
+complete_by NoMemory script left before now h few read write log = tt
+complete_by Usage script left before now h few read write log = h
+complete_by ReadFault script left before now h few read write log = read refl
+complete_by WriteFault script left before now h few read write log = write refl
+complete_by LogFault script left before now h few read write log = log refl
+complete_by TooLong script left before now h few read write log = omega (arith, h.long, few)
+
+-- how a call that has taken the whole script doesn't end
+pub not_reading : (status : Status) → IsAfterReading status → (status ≡ ReadFault → ⊥) × (status ≡ Usage → ⊥)
+not_reading Done after = (λ e. cc, λ e. cc)
+not_reading SomeRefused after = (λ e. cc, λ e. cc)
+not_reading WriteFault after = (λ e. cc, λ e. cc)
+not_reading LogFault after = (λ e. cc, λ e. cc)
+not_reading NoMemory after = (λ e. cc, λ e. cc)
+not_reading Usage after = absurd after
+not_reading ReadFault after = absurd after
+not_reading TooLong after = absurd after
+
+pub not_putting : (status : Status) → IsOfPutting status → (status ≡ ReadFault → ⊥) × (status ≡ Usage → ⊥)
+not_putting WriteFault of = (λ e. cc, λ e. cc)
+not_putting LogFault of = (λ e. cc, λ e. cc)
+not_putting NoMemory of = (λ e. cc, λ e. cc)
+not_putting Done of = absurd of
+not_putting SomeRefused of = absurd of
+not_putting Usage of = absurd of
+not_putting ReadFault of = absurd of
+not_putting TooLong of = absurd of
+
+pub as_refused : (a b : Bool) (script : List ℕ) (before now : Sinks) → a ≡ b → AnswersAll a script before now → AnswersAll b script before now
+as_refused a b script before now e h = subst (λ r. AnswersAll r script before now) e h

@@ -3,6 +3,13 @@ use Rattle.std.specs.Prelude.{◌≡◌, ◌⊎◌, List, [], ◌∷◌, map, co
 use Rattle.std.specs.String.{string_bytes}
 use Rattle.std.specs.declared.alloc.Global.{Global}
 
--- the word `run` alone, or `log` before it
+-- the word `run` alone
+abbrev pub AreRun : List (String Global) → Type 0
+AreRun words = map string_bytes words ≡ codes "run" ∷ []
+
+-- the same behind the word `log`
+abbrev pub AreLogRun : List (String Global) → Type 0
+AreLogRun words = map string_bytes words ≡ codes "log" ∷ codes "run" ∷ []
+
 abbrev pub AreRunWords : List (String Global) → Type 0
-AreRunWords words = (map string_bytes words ≡ codes "run" ∷ []) ⊎ (map string_bytes words ≡ codes "log" ∷ codes "run" ∷ [])
+AreRunWords words = AreRun words ⊎ AreLogRun words

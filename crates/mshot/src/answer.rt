@@ -1,5 +1,5 @@
 // The texts of the answer to one command.
-ghost use Rattle.std.specs.Prelude.{◌≡◌, ◌×◌, [], length, IfOk, OnOk, List};
+ghost use Rattle.std.specs.Prelude.{◌≡◌, [], length, IfOk, OnOk, List};
 ghost use Rattle.ms_call.specs.Commands.{AsksForSome};
 ghost use Rattle.ms_log.specs.NoteText.{notes_text};
 ghost use Rattle.ms_machine.specs.Machine.{Step};
@@ -10,7 +10,7 @@ ghost use Rattle.mshot.specs.Serving.{IsTextOf};
 
 use ms_base::memory::OutOfMemory;
 use ms_call::command::Command;
-use ms_lits::Notes;
+use ms_lits::Note;
 use ms_log::write;
 use ms_machine::reply::{Refusal, Reply};
 use ms_session::Session;
@@ -38,7 +38,7 @@ pub fn answer_command(
         Ok(reply) => reply,
         Err(OutOfMemory) => return Err(OutOfMemory),
     };
-    let log = log_text(alloc, session.notes())?;
+    let log = log_text(alloc, session.notes().as_slice())?;
     let text = text_of(alloc, session, &reply)?;
     Ok(Answer {
         reply: text,
@@ -76,11 +76,11 @@ fn text_of(alloc: Global, session: &mut Session, reply: &Reply) -> Result<Vec<u8
 }
 
 /// The lines of the log, one after another.
-fn log_text(alloc: Global, notes: &Notes) -> Result<Vec<u8>, OutOfMemory>
+fn log_text(alloc: Global, notes: &[Note]) -> Result<Vec<u8>, OutOfMemory>
     ensures { IfOk result (λ text. text.items ≡ notes_text notes.now) }
 {
     let mut text = Vec::new(alloc);
-    for note in notes.as_slice() {
+    for note in notes {
         write(note, &mut text)?;
     }
     Ok(text)

@@ -106,30 +106,6 @@ fn answer_all<K: Sink, L: Sink>(
     }
 }
 
-/// Answers each whole command that a piece completes, and says whether it refused one.
-fn serve_piece<K: Sink, L: Sink>(
-    alloc: Global,
-    piece: &[u8],
-    lines: &mut Lines,
-    session: &mut Session,
-    out: &mut K,
-    log: &mut L,
-) -> Result<bool, Status>
-    ensures served { IfOk result (λ refused. (taken : List ℕ) (before : Sinks) (some : Bool) → HasServed false taken before (sinks (K.held out.old) (K.pieces out.old) (L.held log.old) (L.pieces log.old)) lines.old (state_of session.old) some → HasServed false (taken ++ piece.now) before (sinks (K.held out.new) (K.pieces out.new) (L.held log.new) (L.pieces log.new)) lines.new (state_of session.new) (some || refused)) }
-    ensures all { OnOk result (SaysNoMore false lines.new) }
-    ensures stopped { IfErr result (λ status. (taken : List ℕ) (before : Sinks) (some : Bool) → HasServed false taken before (sinks (K.held out.old) (K.pieces out.old) (L.held log.old) (L.pieces log.old)) lines.old (state_of session.old) some → HasStopped false (taken ++ piece.now) status before (sinks (K.held out.new) (K.pieces out.new) (L.held log.new) (L.pieces log.new))) }
-    ensures ends { IfErr result IsOfPutting }
-    ensures out_fault { result ≡ Err Status.WriteFault → Rose (K.faults out.old) (K.faults out.new) }
-    ensures out_quiet { result ≢ Err Status.WriteFault → K.faults out.new ≡ K.faults out.old }
-    ensures log_fault { result ≡ Err Status.LogFault → Rose (L.faults log.old) (L.faults log.new) }
-    ensures log_quiet { result ≢ Err Status.LogFault → L.faults log.new ≡ L.faults log.old }
-{
-    if lines.feed(piece).is_err() {
-        return Err(Status::NoMemory);
-    }
-    answer_all(alloc, false, lines, session, out, log)
-}
-
 /// Answers the last line, where it lacks its line end, and a text that the end cuts off.
 fn finish<K: Sink, L: Sink>(
     alloc: Global,
@@ -216,8 +192,11 @@ pub fn serve<S: Source, K: Sink, L: Sink>(
             Ok(count) => count,
             Err(status) => return status,
         };
+        if lines.feed(&buffer[..count]).is_err() {
+            return Status::NoMemory;
+        }
         taken += count;
-        match serve_piece(alloc, &buffer[..count], &mut lines, &mut session, out, log) {
+        match answer_all(alloc, false, &mut lines, &mut session, out, log) {
             Ok(refusal) => refused |= refusal,
             Err(status) => return status,
         }
