@@ -1,16 +1,18 @@
 -- What is taken, one piece after another.
-use Rattle.std.proofs.Common.{◌≡◌, ◌≢◌, ◌∙◌, ℕ, ◌+◌, ◌-◌, ◌<◌, ◌≤◌, Bool, true, false, List, [], ◌++◌, length, take, drop, Option, Some, Ok, Err, refl, sym, subst, ap, arith}
+use Rattle.std.proofs.Common.{◌≡◌, ◌≢◌, ◌∙◌, ℕ, ◌+◌, ◌-◌, ◌<◌, ◌≤◌, Bool, true, false, List, [], ◌++◌, length, take, drop, Option, Some, None, Result, Ok, Err, OnOk, refl, sym, subst, ap, arith}
 use Rattle.std.proofs.lemmas.List.{drop-drop, length-drop, length-take, take-append-drop, drop_all, take_all}
 use Rattle.std.proofs.Math.Seq.{take-add}
 use Rattle.ms_lines.specs.declared.Lines.{Lines}
 use Rattle.ms_lines.specs.Buffers.{HasNoLine}
-use Rattle.ms_machine.specs.Machine.{State}
+use Rattle.std.specs.Prelude.{is_err}
+use Rattle.std.proofs.lemmas.Bool.{false≢true}
+use Rattle.ms_machine.specs.Machine.{State, start}
 use Rattle.mshot.specs.declared.status.Status.{Status}
 use Rattle.mshot.specs.declared.status.Status.TheVariants.{Done, SomeRefused, Usage, ReadFault, WriteFault, LogFault, TooLong, NoMemory}
 use Rattle.mshot.specs.Sinks.{Sinks}
 use Rattle.mshot.specs.Outcome.{most_bytes, IsTaken, HasStopped, Serves, IsAfterReading, IsOfPutting, IsComplete, AnswersLines}
 use Rattle.mshot.specs.Serving.{HasServed, TakesPiece, Finishes, AnswersAll}
-use Rattle.mshot.proofs.Progress.{answers_lines, stopped_between}
+use Rattle.mshot.proofs.Progress.{answers_lines, stopped_between, stopped_piece, served_first, served_piece}
 
 -- the first n bytes were taken
 pub taken_front : (script : List ℕ) (n : ℕ) (left : Option (List ℕ)) → n ≤ length script → n ≤ most_bytes → left ≡ Some (drop n script) → IsTaken script (take n script) left
@@ -130,3 +132,31 @@ not_putting TooLong of = absurd of
 
 pub as_refused : (a b : Bool) (script : List ℕ) (before now : Sinks) → a ≡ b → AnswersAll a script before now → AnswersAll b script before now
 as_refused a b script before now e h = subst (λ r. AnswersAll r script before now) e h
+
+-- the same where the end was found by a piece without bytes
+pub serves_ended : (script : List ℕ) (n k : ℕ) (left : Option (List ℕ)) (before now : Sinks) → n ≤ length script → n ≤ most_bytes → left ≡ Some (drop k (drop n script)) → k ≡ 0 → drop n script ≡ [] → (status : Status) → IsAfterReading status → Finishes status (take n script) before now → Serves status script left before now
+serves_ended script n k left before now within few others zero_is none status after h =
+    serves_finished script n left before now within few (others ∙ ap (λ m. Some (drop m (drop n script))) zero_is) none status after (subst (λ t. Finishes status t before now) (taken_all script n within none).0 h)
+
+-- before the first piece
+pub serves_nothing : (script : List ℕ) (left : Option (List ℕ)) (before : Sinks) → left ≡ Some script → Serves NoMemory script left before before
+serves_nothing script left before at =
+    serves_front script 0 left before before (omega arith) (omega arith) false (λ e. absurd (false≢true e)) at NoMemory tt
+    (stopped_between false [] before before (record { text = None; rest = [] }) start false (served_first before (record { text = None; rest = [] }) start refl refl))
+
+-- what a call that didn't fail promises
+pub on_ok : {A E P : Type 0} (r : Result A E) → is_err r ≡ false → OnOk r P → P
+on_ok (Ok x) e p = p
+on_ok (Err e) h p = absurd (false≢true (sym h))
+
+-- a piece was fed, or there was no memory for it
+module _ (script : List ℕ) (n k : ℕ) (left : Option (List ℕ)) (buffer : List ℕ) (more : TakenMore script n k left buffer) (before now : Sinks) (lines : Lines) (state : State) (some : Bool) (done : HasServed false (take n script) before now lines state some) where
+  pub served_fed : (after : Lines) (read : List ℕ) → read ≡ buffer → after ≡ record lines { rest = lines.rest ++ take k read } → HasServed false (take (n + k) script) before now after state some
+  served_fed after read same fed =
+      subst (λ t. HasServed false t before now after state some) (ap (λ b. take n script ++ take k b) same ∙ more.bytes)
+      (served_piece (take n script) before now lines state some done (take k read) after fed)
+
+  pub serves_unfed : n + k ≤ most_bytes → Serves NoMemory script left before now
+  serves_unfed few =
+      serves_front script (n + k) left before now more.within few false (λ e. absurd (false≢true e)) more.others NoMemory tt
+      (subst (λ t. HasStopped false t NoMemory before now) more.bytes (stopped_piece (take n script) before now lines state some done (take k buffer)))

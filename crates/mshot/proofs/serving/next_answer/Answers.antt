@@ -5,8 +5,8 @@ pub returns-in_ok-answer_command-in-Command : goal.returns-in_ok-answer_command-
 returns-in_ok-answer_command-in-Command c = record {
   item = command c.in-Command.command;
   says = rw c.in-Command.is at c.in_ok-next_fed.ensures.said;
-  output = c.in_ok-answer_command.ensures.0;
-  takes = c.in_ok-answer_command.ensures.1;
-  texts = c.in_ok-answer_command.ensures.2;
+  output = c.in_ok-answer_command-in-Command.ensures.0;
+  takes = c.in_ok-answer_command-in-Command.ensures.1;
+  texts = c.in_ok-answer_command-in-Command.ensures.2;
   shorter = rw c.in-Command.is at c.in_ok-next_fed.ensures.shorter;
 }

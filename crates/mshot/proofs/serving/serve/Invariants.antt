@@ -6,8 +6,8 @@ use Rattle.mshot.specs.Serving.{HasServed}
 use Rattle.mshot.proofs.serving.serve.Given as goal
 
 -- each whole command that was taken has its reply, and no call failed
-abbrev pub invariant-loop-count : goal.invariant-loop-count
-invariant-loop-count g l = record {
+abbrev pub invariant-loop-lines : goal.invariant-loop-lines
+invariant-loop-lines g l = record {
   buffer : vec_len l.buffer ≡ 65536;
   few : l.taken ≤ 2 ^ 30;
   src_quiet : g.S.Source.faults l.src ≡ g.S.Source.faults l.fn.src;
@@ -20,5 +20,5 @@ invariant-loop-count g l = record {
       (sinks (g.K.Sink.held l.out) (g.K.Sink.pieces l.out) (g.L.Sink.held l.log) (g.L.Sink.pieces l.log)) l.lines (state_of l.session) l.refused;
 }
 
-abbrev pub decreases-loop-count : goal.decreases-loop-count
-decreases-loop-count g l = 2 ^ 30 - l.taken
+abbrev pub decreases-loop-lines : goal.decreases-loop-lines
+decreases-loop-lines g l = 2 ^ 30 - l.taken
