@@ -1,7 +1,7 @@
 -- What is taken, one piece after another.
 use Rattle.std.proofs.Common.{◌≡◌, ◌≢◌, ◌∙◌, ℕ, ◌+◌, ◌-◌, ◌<◌, ◌≤◌, Bool, true, false, List, [], ◌++◌, length, take, drop, Option, Some, None, Result, Ok, Err, OnOk, refl, sym, subst, ap, arith}
 use Rattle.std.proofs.lemmas.List.{drop-drop, length-drop, length-take, take-append-drop, drop_all, take_all}
-use Rattle.std.proofs.Math.Seq.{take-add}
+use Rattle.std.proofs.Math.Seq.{take-add, take-append_seam}
 use Rattle.ms_lines.specs.declared.Lines.{Lines}
 use Rattle.ms_lines.specs.Buffers.{HasNoLine}
 use Rattle.std.specs.Prelude.{is_err}
@@ -148,6 +148,10 @@ serves_nothing script left before at =
 pub on_ok : {A E P : Type 0} (r : Result A E) → is_err r ≡ false → OnOk r P → P
 on_ok (Ok x) e p = p
 on_ok (Err e) h p = absurd (false≢true (sym h))
+
+-- a buffer that was written whole
+pub whole_buffer : (len : ℕ) (new rest read : List ℕ) → length new ≡ len → read ≡ take len (new ++ rest) → read ≡ new
+whole_buffer len new rest read size is = is ∙ ap (λ n. take n (new ++ rest)) (sym size) ∙ take-append_seam new rest
 
 -- a piece was fed, or there was no memory for it
 module _ (script : List ℕ) (n k : ℕ) (left : Option (List ℕ)) (buffer : List ℕ) (more : TakenMore script n k left buffer) (before now : Sinks) (lines : Lines) (state : State) (some : Bool) (done : HasServed false (take n script) before now lines state some) where

@@ -3,7 +3,7 @@ use Rattle.std.proofs.lemmas.Bool.{false≢true}
 use Rattle.ms_lines.specs.Buffers.{HasNoLine}
 use Rattle.ms_session.specs.Kept.{state_of}
 use Rattle.mshot.proofs.Progress.{served_first}
-use Rattle.mshot.proofs.Reading.{taken_more, serves_front, serves_taken, serves_most, serves_ended, serves_nothing, on_ok, served_fed, serves_unfed}
+use Rattle.mshot.proofs.Reading.{taken_more, serves_front, serves_taken, serves_most, serves_ended, serves_nothing, on_ok, served_fed, serves_unfed, whole_buffer}
 use Rattle.mshot.proofs.serving.serve.Goals as goal
 
 pub loop-lines-init : goal.loop-lines-init
@@ -48,7 +48,7 @@ returns-in-Err-answer_all-clause-served g c = λ script at.
     let told = c.loop-lines.invariant.served script at in
     let piece = c.in-Ok-take_piece.ensures.piece (drop c.loop-lines.taken script) told.1 in
     let more = taken_more script c.loop-lines.taken c.in-Ok-take_piece.count _ _ told.0 piece in
-    let fed = served_fed script c.loop-lines.taken c.in-Ok-take_piece.count _ _ more _ _ c.loop-lines.lines _ _ told.2 c.feed.new.self _ c.deref.ensures.value (on_ok c.feed.result (sym c.is_err.ensures.value ∙ c.if-is_err.false) c.feed.ensures.ok) in
+    let fed = served_fed script c.loop-lines.taken c.in-Ok-take_piece.count _ _ more _ _ c.loop-lines.lines _ _ told.2 c.feed.new.self _ (whole_buffer c.loop-lines.buffer.len _ _ _ (omega (arith, c.in-Ok-take_piece.ensures.len, c.as_mut_slice.ensures.len)) c.deref.ensures.value) (on_ok c.feed.result (sym c.is_err.ensures.value ∙ c.if-is_err.false) c.feed.ensures.ok) in
     serves_front script (c.loop-lines.taken + c.in-Ok-take_piece.count) _ _ _ more.within c.in-Ok-take_piece.ensures.few_more.1 false (λ e. absurd (false≢true e)) more.others _ c.in-Err-answer_all.ensures.ends
     (c.in-Err-answer_all.ensures.stopped (take (c.loop-lines.taken + c.in-Ok-take_piece.count) script) _ c.loop-lines.refused fed)
 
@@ -64,6 +64,6 @@ loop-lines-preserved g c = record {
       let told = c.loop-lines.invariant.served script at in
       let piece = c.in-Ok-take_piece.ensures.piece (drop c.loop-lines.taken script) told.1 in
       let more = taken_more script c.loop-lines.taken c.in-Ok-take_piece.count _ _ told.0 piece in
-      let fed = served_fed script c.loop-lines.taken c.in-Ok-take_piece.count _ _ more _ _ c.loop-lines.lines _ _ told.2 c.feed.new.self _ c.deref.ensures.value (on_ok c.feed.result (sym c.is_err.ensures.value ∙ c.if-is_err.false) c.feed.ensures.ok) in
+      let fed = served_fed script c.loop-lines.taken c.in-Ok-take_piece.count _ _ more _ _ c.loop-lines.lines _ _ told.2 c.feed.new.self _ (whole_buffer c.loop-lines.buffer.len _ _ _ (omega (arith, c.in-Ok-take_piece.ensures.len, c.as_mut_slice.ensures.len)) c.deref.ensures.value) (on_ok c.feed.result (sym c.is_err.ensures.value ∙ c.if-is_err.false) c.feed.ensures.ok) in
       (more.within, more.others, c.in-Ok-answer_all.ensures.served (take (c.loop-lines.taken + c.in-Ok-take_piece.count) script) _ c.loop-lines.refused fed);
 }
