@@ -1,5 +1,5 @@
 -- What sinks gain, one put after another.
-use Rattle.std.proofs.Common.{◌≡◌, ◌∙◌, ℕ, Bool, List, [], ◌∷◌, ◌++◌, map, take, Option, Some, None, Result, Ok, Err, OnErr, refl, sym, ap, subst, append-nil, append_assoc}
+use Rattle.std.proofs.Common.{◌≡◌, ◌∙◌, ℕ, List, [], ◌∷◌, ◌++◌, Option, Some, None, Result, Ok, Err, OnErr, refl, sym, ap, subst, append-nil, append_assoc}
 use Rattle.std.specs.List.{flat_map}
 use Rattle.std.proofs.lemmas.List.Concat.{flat_map-append}
 use Rattle.ms_io.specs.Streams.{Adds, AddsFront, AddsPiece}
@@ -8,7 +8,7 @@ use Rattle.ms_machine.specs.Replies.{Output, reply_text}
 use Rattle.mshot.specs.declared.answer.Answer.{Answer}
 use Rattle.mshot.specs.declared.status.Status.{Status}
 use Rattle.mshot.specs.declared.status.Status.TheVariants.{Done, SomeRefused, Usage, ReadFault, WriteFault, LogFault, TooLong, NoMemory}
-use Rattle.mshot.specs.Sinks.{Told, Sinks, told, AddsPieces, Puts, PutsFront, Gains, FailsInReply, FailsInLog, reply_pieces, log_part, log_pieces}
+use Rattle.mshot.specs.Sinks.{Told, Sinks, told, AddsPieces, Puts, PutsFront, Gains, reply_pieces, log_part, log_pieces}
 use Rattle.mshot.specs.Outcome.{EndsAt}
 use Rattle.mshot.specs.Serving.{IsTextOf, HasPut, HasFailed}
 

@@ -1,10 +1,10 @@
 -- How far a script is served, one item after another.
-use Rattle.std.proofs.Common.{◌≡◌, ◌∙◌, ◌↔◌, ℕ, ◌+◌, ◌<◌, ◌≤◌, suc, Bool, true, false, eqb, ◌||◌, List, [], ◌∷◌, ◌++◌, length, Option, Some, None, IsSome, inl, inr, refl, sym, ap, subst, append-nil, append_assoc, one-add, arith}
+use Rattle.std.proofs.Common.{◌≡◌, ◌∙◌, ◌↔◌, ℕ, suc, Bool, true, false, eqb, ◌||◌, List, [], ◌∷◌, ◌++◌, Option, Some, None, IsSome, inl, inr, refl, sym, ap, subst, append-nil, append_assoc, one-add, arith}
 use Rattle.std.specs.List.{prefix_len}
 use Rattle.std.proofs.lemmas.Bool.{false≢true}
 use Rattle.std.proofs.Math.Bool.{or-false, or_assoc}
 use Rattle.ms_text.specs.Tokens.{is_in_line}
-use Rattle.ms_call.specs.Items.{Item, Open, with_item, HaveItems, HasItems, lines_in}
+use Rattle.ms_call.specs.Items.{Item, Open, with_item, HaveItems, lines_in}
 use Rattle.ms_lines.specs.declared.Lines.{Lines}
 use Rattle.ms_lines.specs.Buffers.{HasNoLine}
 use Rattle.ms_lines.specs.Feeding.{HasLeft, SaysThen, SaysAtEnd}
@@ -15,9 +15,9 @@ use Rattle.ms_machine.specs.Scripts.{Takes, Run, Replies, output_at_end}
 use Rattle.mshot.specs.declared.answer.Answer.{Answer}
 use Rattle.mshot.specs.declared.status.Status.{Status}
 use Rattle.mshot.specs.declared.status.Status.TheVariants.{Done, SomeRefused, Usage, ReadFault, WriteFault, LogFault, TooLong, NoMemory}
-use Rattle.mshot.specs.Sinks.{Sinks, Gains}
-use Rattle.mshot.specs.Outcome.{AnswersFirst, AnswersLines, HasStopped, EndsAt}
-use Rattle.mshot.specs.Serving.{MayCome, SaysIn, HasSaid, HasServed, Steps, IsTextOf, HasPut, HasFailed, AnswersAll, Finishes, SaysNoMore}
+use Rattle.mshot.specs.Sinks.{Sinks}
+use Rattle.mshot.specs.Outcome.{AnswersFirst, AnswersLines, HasStopped}
+use Rattle.mshot.specs.Serving.{MayCome, SaysIn, HasSaid, HasServed, Steps, IsTextOf, HasPut, HasFailed, AnswersAll, Finishes}
 use Rattle.mshot.proofs.Gaining.{gains_none, gains_more, fails_more}
 
 -- what may come

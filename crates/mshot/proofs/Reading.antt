@@ -1,6 +1,6 @@
 -- What is taken, one piece after another.
-use Rattle.std.proofs.Common.{◌≡◌, ◌≢◌, ◌∙◌, ℕ, ◌+◌, ◌-◌, ◌<◌, ◌≤◌, Bool, true, false, List, [], ◌++◌, length, take, drop, Option, Some, None, Result, Ok, Err, OnOk, refl, sym, subst, ap, arith}
-use Rattle.std.proofs.lemmas.List.{drop-drop, length-drop, length-take, take-append-drop, drop_all, take_all}
+use Rattle.std.proofs.Common.{◌≡◌, ◌∙◌, ℕ, ◌+◌, ◌-◌, ◌≤◌, Bool, true, false, List, [], ◌++◌, length, take, drop, Option, Some, None, Result, Ok, Err, OnOk, refl, sym, subst, ap, arith}
+use Rattle.std.proofs.lemmas.List.{drop-drop, length-drop, length-take, take-append-drop, take_all}
 use Rattle.std.proofs.Math.Seq.{take-add, take-append_seam}
 use Rattle.ms_lines.specs.declared.Lines.{Lines}
 use Rattle.ms_lines.specs.Buffers.{HasNoLine}

@@ -1,5 +1,5 @@
 -- How far a script is served.
-use Rattle.std.specs.Prelude.{ℕ, ◌≡◌, ◌↔◌, ◌<◌, ◌≤◌, ◌+◌, Bool, true, false, List, [], ◌∷◌, ◌++◌, length, take, drop, Option, Some, None, Result, Ok, Err}
+use Rattle.std.specs.Prelude.{ℕ, ◌≡◌, ◌↔◌, ◌<◌, ◌≤◌, Bool, true, false, List, [], ◌∷◌, ◌++◌, length, take, drop, Option, Some, None, Result, Ok, Err}
 use Rattle.ms_call.specs.Items.{Item, Open, with_item, HaveItems, lines_in}
 use Rattle.ms_lines.specs.declared.Lines.{Lines}
 use Rattle.ms_lines.specs.Buffers.{HasNoLine}
@@ -10,7 +10,7 @@ use Rattle.ms_machine.specs.Replies.{Output, any_refused, is_refused, reply_text
 use Rattle.ms_machine.specs.Scripts.{Run, Takes, Replies}
 use Rattle.mshot.specs.declared.answer.Answer.{Answer}
 use Rattle.mshot.specs.declared.status.Status.{Status}
-use Rattle.mshot.specs.declared.status.Status.TheVariants.{Done, SomeRefused, Usage, ReadFault, WriteFault, LogFault, TooLong, NoMemory}
+use Rattle.mshot.specs.declared.status.Status.TheVariants.{Done, SomeRefused, WriteFault, LogFault, TooLong}
 use Rattle.mshot.specs.Sinks.{Sinks, Gains, Puts, PutsFront, log_part}
 use Rattle.mshot.specs.Outcome.{most_bytes, HasStopped}
 

@@ -10,11 +10,7 @@ use crate::status::Status;
 use ms_io::{Failed, Sink};
 
 /// Puts the lines of the log of a command, where it has some, and then its reply.
-pub fn put_answer<K: Sink, L: Sink>(
-    answer: &Answer,
-    out: &mut K,
-    log: &mut L,
-) -> Result<(), Status>
+pub fn put_answer<K: Sink, L: Sink>(answer: &Answer, out: &mut K, log: &mut L) -> Result<(), Status>
     ensures put { OnOk result (HasPut answer.now (sinks (K.held out.old) (K.pieces out.old) (L.held log.old) (L.pieces log.old)) (sinks (K.held out.new) (K.pieces out.new) (L.held log.new) (L.pieces log.new))) }
     ensures failed { IfErr result (λ status. HasFailed status answer.now (sinks (K.held out.old) (K.pieces out.old) (L.held log.old) (L.pieces log.old)) (sinks (K.held out.new) (K.pieces out.new) (L.held log.new) (L.pieces log.new))) }
     ensures ends { IfErr result IsOfPutting }

@@ -1,7 +1,6 @@
-use Rattle.std.proofs.Common.{◌∙◌, ◌||◌, sym, ap, refl, subst}
+use Rattle.std.proofs.Common.{◌∙◌, sym, refl}
 use Rattle.std.proofs.Math.Bool.{or_assoc}
 use Rattle.ms_session.specs.Kept.{state_of}
-use Rattle.mshot.specs.Sinks.{Sinks, sinks}
 use Rattle.mshot.proofs.Progress.{served_first_none, served_nothing, served_more, stopped_between, stopped_in}
 use Rattle.mshot.proofs.serving.answer_all.Goals as goal
 

@@ -1,4 +1,4 @@
-use Rattle.std.proofs.Common.{◌≡◌, ◌∙◌, ◌≤◌, ◌+◌, ℕ, false, true, List, [], Some, length, take, drop, refl, sym, subst, arith, inl, inr}
+use Rattle.std.proofs.Common.{◌∙◌, ◌+◌, false, take, drop, refl, sym, subst, arith, inl, inr}
 use Rattle.std.proofs.lemmas.Bool.{false≢true}
 use Rattle.ms_lines.specs.Buffers.{HasNoLine}
 use Rattle.ms_session.specs.Kept.{state_of}

@@ -26,6 +26,7 @@ two_words (w ∷ v ∷ []) first second log run a b some few is next p q = (
   where
     front : string_bytes w ∷ string_bytes v ∷ [] ≡ log ∷ run ∷ [] → string_bytes w ≡ log
     front e = cc
+
     back : string_bytes w ∷ string_bytes v ∷ [] ≡ log ∷ run ∷ [] → string_bytes v ≡ run
     back e = cc
 two_words (w ∷ v ∷ u ∷ us) first second log run a b some few is next p q = absurd (omega arith)
