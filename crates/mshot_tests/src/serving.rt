@@ -55,6 +55,7 @@ fn replies(alloc: Global, count: usize) -> Result<Vec<u8>, Fail> {
 /// A sink that keeps each piece by itself.
 #[derive(Drop)]
 struct Pieces {
+    alloc: Global,
     pieces: Seq<Bytes>,
     faults: u64,
 }
@@ -67,7 +68,7 @@ impl Sink for Pieces {
     ghost faults = { λ s. s.faults };
 
     fn put(&mut self, piece: &[u8]) -> Result<(), Failed> {
-        let copied = Bytes::copied(Global, piece);
+        let copied = Bytes::copied(self.alloc, piece);
         if let Ok(bytes) = copied {
             if self.pieces.push(bytes).is_ok() {
                 return Ok(());
@@ -154,6 +155,7 @@ fn each_reply_is_one_piece(rt: HostRuntime) -> Result<(), Fail> {
     let run = words(alloc, &["run"])?;
     let mut src = MemSource::new(script(alloc)?, 5, Vec::new(alloc));
     let mut out = Pieces {
+        alloc,
         pieces: Seq::new(alloc),
         faults: 0,
     };
