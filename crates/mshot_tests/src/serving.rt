@@ -306,10 +306,7 @@ fn each_reply_is_one_piece(rt: HostRuntime) -> Result<(), Fail> {
 fn as_many_bytes_as_an_input_may_have(rt: HostRuntime) -> Result<(), Fail> {
     let alloc = rt.alloc();
     let run = words(alloc, &["run"])?;
-    for (left, wanted) in [
-        (1 << 30, Status::Done),
-        ((1 << 30) + 1, Status::TooLong),
-    ] {
+    for (left, wanted) in [(1 << 30, Status::Done), ((1 << 30) + 1, Status::TooLong)] {
         let mut src = RepeatSource::new(b'\n', left);
         let mut out = MemSink::new(alloc, 0, Vec::new(alloc))?;
         let status = mshot(alloc, &run, &mut src, &mut out, &mut NoSink);
