@@ -265,7 +265,7 @@ fn things_are_declared_once(rt: HostRuntime) -> Result<(), Fail> {
         (
             "a body that two rules and two modules have",
             "@add\n{a; b}. c :- a, not b. d :- not b, a. #program late. e :- a, not b.\n@end\n@ground base\n@ground late\n@ground base\n",
-            "v a a\nv a b\nv a c\nv a d\nv b\nv b 1 -2\nv a e\n",
+            "v a a\nv a b\nv a c\nv a d\nv b 1 -2\nv b\nv a e\n",
         ),
         (
             "a module that is refused",
