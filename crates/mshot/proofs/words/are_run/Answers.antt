@@ -4,7 +4,7 @@ use Rattle.std.specs.Prelude.{String}
 use Rattle.std.specs.declared.alloc.Global.{Global}
 use Rattle.std.specs.Str.{bytes_eq}
 use Rattle.std.proofs.lemmas.Slice.Eq.{bytes_eq-Decides}
-use Rattle.mshot.proofs.words.are_run_words.Goals as goal
+use Rattle.mshot.proofs.words.are_run.Goals as goal
 
 -- one word is as good as its bytes
 one_word : (words : List (String Global)) (word : String Global) (text bytes : List ℕ) (b : Bool) → 1 ≤ length words → length words < 2 → word ≡ get_or words 0 word → bytes ≡ string_bytes word → b ≡ bytes_eq bytes text → (IsTrue b → map string_bytes words ≡ text ∷ []) × (map string_bytes words ≡ text ∷ [] → IsTrue b)
