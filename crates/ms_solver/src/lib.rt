@@ -1,0 +1,9 @@
+// The solver that lives on while a join of ground modules grows.
+#![tactic(auto)]
+
+mod question;
+mod solver;
+mod told;
+
+pub use ms_search::{OutOfMemory, Run};
+pub use solver::Solver;
