@@ -1,3 +1,3 @@
-pub mod States
 pub mod Numbered
-pub mod Solves
+pub mod States
+pub mod Extending

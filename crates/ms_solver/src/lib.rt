@@ -1,9 +1,8 @@
 // The solver that lives on while a join of ground modules grows.
 #![tactic(auto)]
 
-mod question;
+mod extending;
 mod solver;
-mod told;
 
 pub use ms_search::{OutOfMemory, Run};
-pub use solver::Solver;
+pub use solver::{Solver, SolverBy};
