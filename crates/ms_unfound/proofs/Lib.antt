@@ -6,3 +6,6 @@ pub mod SupportLaws
 pub mod LoopGrowth
 pub mod PartLaws
 pub mod TakeLaws
+pub mod InputLoops
+pub mod Admitted
+pub mod WithCompletion

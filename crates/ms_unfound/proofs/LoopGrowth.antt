@@ -109,7 +109,7 @@ pub head_of : (set : ℕ → Bool) (head : Option ℕ) → IsTrue (has_head_in s
 head_of set None holds = absurd (false≢true holds)
 head_of set (Some h) holds = (h, refl, holds)
 
-if_at : (P : ℕ → Type 0) (head : Option ℕ) (h : ℕ) → head ≡ Some h → IfSome head P → P h
+pub if_at : (P : ℕ → Type 0) (head : Option ℕ) (h : ℕ) → head ≡ Some h → IfSome head P → P h
 if_at P head h at holds = subst (λ (o : Option ℕ). IfSome o P) at holds
 
 pub contains_or_not : (xs : List ℕ) (a : ℕ) → Contains xs a ⊎ (¬ Contains xs a)

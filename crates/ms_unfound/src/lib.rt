@@ -1,8 +1,7 @@
 // The loop nogoods of a join as a theory: sets of atoms that have no support from outside.
 #![tactic(auto)]
 
-ghost use Rattle.ms_unfound.specs.Laws.{SettledIsFounded};
-
+mod laws;
 mod marking;
 mod members;
 mod part;
@@ -11,10 +10,10 @@ mod taking;
 mod unfounded;
 mod written;
 
+pub use laws::{
+    admitted_is_possible, assign_keeps_loops, atoms_decide, completion_declares, given_rise,
+    possible_by_given, release_keeps_loops, same_keeps_loops, settled_is_founded,
+    taken_with_completion,
+};
 pub use ms_base::memory::OutOfMemory;
 pub use unfounded::Unfounded;
-
-/// Truths of all things that a settled trail has, and that contain no completion nogood, contain no loop nogood.
-pub fn settled_is_founded()
-    ensures { SettledIsFounded }
-{}
