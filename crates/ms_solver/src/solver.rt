@@ -1,4 +1,4 @@
-ghost use Rattle.std.specs.Prelude.{ℕ, ◌≡◌, [], List, OnOk, length};
+ghost use Rattle.std.specs.Prelude.{ℕ, ◌≡◌, [], Some, length, slice_get};
 ghost use Rattle.ms_join.specs.Modules.{Join, no_join};
 ghost use Rattle.ms_search.specs.Runs.{AreAttached, empty_trail};
 ghost use Rattle.ms_solver.specs.States.{CanRelease, Knowledge, Releases, Serves, kept_of};
@@ -6,6 +6,7 @@ ghost use Rattle.ms_solver.specs.States.{CanRelease, Knowledge, Releases, Serves
 use ms_base::atom_id::AtomId;
 use ms_base::seq::Seq;
 use ms_complete::Complete;
+use ms_loops::inputs_keep_consequences;
 use ms_lits::Numbers;
 use ms_nogood::{Nogoods, Plain, Propagate};
 use ms_search::SearchBy;
@@ -77,8 +78,18 @@ impl<P: Propagate + Drop> SolverBy<P> {
         ensures attached { AreAttached (P.attached self.new.search.propagation) self.new.knows.store }
         ensures in_step { P.InStep self.new.search.propagation self.new.knows.store (empty_trail self.new.search.room) }
     {
-        if let Some(Some(key)) = self.sleepers.get(a.0 as usize) {
-            self.store.wake(*key);
-        }
+        inputs_keep_consequences();
+        self.store.wake(sleeper_of(&self.sleepers, a));
+    }
+}
+
+/// The key of the nogood that sleeps for an atom.
+fn sleeper_of(sleepers: &Sleepers, a: AtomId) -> usize
+    requires { (key : ℕ) × (slice_get sleepers.now a ≡ Some (Some key)) }
+    ensures { slice_get sleepers.now a ≡ Some (Some result) }
+{
+    match sleepers.as_slice()[a.0 as usize] {
+        Some(key) => key,
+        None => unreachable!(),
     }
 }
