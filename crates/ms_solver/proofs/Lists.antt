@@ -1,5 +1,5 @@
--- Places in lists that grow.
-use Rattle.std.proofs.Common.{◌≡◌, ◌⊎◌, ℕ, zero, suc, List, [], ◌∷◌, ◌++◌, Some, None, length, refl, ap, inl, inr}
+-- Places in lists that grow, and facts that hold once a call is done.
+use Rattle.std.proofs.Common.{◌≡◌, ◌⊎◌, ℕ, zero, suc, List, [], ◌∷◌, ◌++◌, Some, None, Result, Ok, Err, OnOk, length, refl, ap, inl, inr}
 use Rattle.std.specs.Prelude.{slice_get}
 use Rattle.ms_complete.proofs.Lists.{none_is_some, same_some}
 
@@ -12,3 +12,8 @@ push_cases (z ∷ xs) x y (suc k) at = elim (push_cases xs x y k at) [
   | inl before ↦ inl before
   | inr last ↦ inr (ap suc last.0, last.1)
 ]
+
+-- what holds holds where a call is done
+pub on_ok : {T E P : Type 0} (r : Result T E) → P → OnOk r P
+on_ok (Ok x) p = p
+on_ok (Err e) p = tt

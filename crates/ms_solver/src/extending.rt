@@ -15,6 +15,7 @@ use ms_base::memory::OutOfMemory;
 use ms_complete::Complete;
 use ms_join::ground_module::GroundModule;
 use ms_lits::{Lit, Notes, Numbers};
+use ms_loops::consequences_stay;
 use ms_nogood::{Nogoods, Propagate};
 use ms_term::Terms;
 
@@ -34,6 +35,7 @@ impl<P: Propagate + Drop> SolverBy<P> {
         ensures attached { OnOk result (AreAttached (P.attached self.new.search.propagation) self.new.knows.store) }
         ensures in_step { OnOk result (P.InStep self.new.search.propagation self.new.knows.store (empty_trail self.new.search.room)) }
     {
+        consequences_stay();
         let known = self.completion.things();
         self.completion.extend(m, &mut self.store)?;
         self.loops.extend(m, &self.completion)?;
