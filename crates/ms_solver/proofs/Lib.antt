@@ -1,5 +1,6 @@
 pub mod Lists
 pub mod Stores
+pub mod Starting
 pub mod Releasing
 pub mod Lasting
 pub mod Sleeping
