@@ -192,3 +192,29 @@ module _ (old new : Store) (key : ℕ) (s : Stored) (there : slot_at old key ≡
     | inl same ↦ inl (ap (λ (t : Stored). t.kind) (same_some stored (record { lits = s.lits; kind = Some Base }) (sym (awake_slot (slot_at new k) stored found) ∙ (ap (slot_at new) same ∙ woken_is))))
     | inr differ ↦ lasting k stored (ap awake_in (sym (w.others k differ)) ∙ found)
   ]
+
+  pub woken_keeps_lits : (k : ℕ) → HasSameLits old new k
+  woken_keeps_lits k = elim (cases_eq k key) [
+    | inl same ↦ ap (λ (n : ℕ). option_map (λ (t : Stored). t.lits) (slot_at new n)) same ∙ (ap (option_map (λ (t : Stored). t.lits)) (woken_is ∙ sym (ap (option_map (λ (t : Stored). record { lits = t.lits; kind = Some Base })) there))
+        ∙ (lits_woken (slot_at old key) ∙ ap (λ (n : ℕ). option_map (λ (t : Stored). t.lits) (slot_at old n)) (sym same)))
+    | inr differ ↦ ap (option_map (λ (t : Stored). t.lits)) (w.others k differ)
+  ]
+    where
+      lits_woken : (o : Option Stored) → option_map (λ (t : Stored). t.lits) (option_map (λ (t : Stored). record { lits = t.lits; kind = Some Base }) o) ≡ option_map (λ (t : Stored). t.lits) o
+      lits_woken None = refl
+      lits_woken (Some t) = refl
+
+  some_still : (k : ℕ) → is_some (slot_at new k) ≡ is_some (slot_at old k)
+  some_still k = elim (cases_eq k key) [
+    | inl same ↦ ap (λ (n : ℕ). is_some (slot_at new n)) same ∙ (ap is_some woken_is ∙ (sym (ap is_some there) ∙ ap (λ (n : ℕ). is_some (slot_at old n)) (sym same)))
+    | inr differ ↦ ap is_some (w.others k differ)
+  ]
+
+  pub woken_keeps_attached : (attached : ℕ → Bool) → AreAttached attached old → AreAttached attached new
+  woken_keeps_attached attached a = record {
+    known = λ k is. some_still k ∙ a.known k is;
+    fresh = λ k is. elim (a.fresh k (sym (some_still k) ∙ is)) [
+      | inl already ↦ inl already
+      | inr has ↦ inr (subst (λ (ks : List ℕ). Contains ks k) (sym w.fresh) has)
+    ];
+  }

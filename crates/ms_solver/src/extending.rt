@@ -1,9 +1,11 @@
 // Taking a module: its things, its completion and its loops, and a nogood asleep for each new input.
-ghost use Rattle.std.specs.Prelude.{ℕ, ◌≡◌, ◌<◌, ◌≤◌, ◌+◌, ◌++◌, All, Contains, IfOk, List, OnOk, drop, length};
+ghost use Rattle.std.specs.Prelude.{ℕ, ◌≡◌, ◌<◌, ◌≤◌, ◌+◌, ◌++◌, ◌∷◌, [], All, Contains, IfOk, None, OnOk, drop, length};
 ghost use Rattle.std.specs.List.{AllZip};
 ghost use Rattle.ms_join.specs.Modules.{Join};
 ghost use Rattle.ms_join.specs.Things.Thing.{atom};
+ghost use Rattle.ms_nogood.specs.Store.{Adds};
 ghost use Rattle.ms_complete.specs.Notes.{Tells};
+ghost use Rattle.ms_complete.specs.Rules.{holds};
 ghost use Rattle.ms_search.specs.Runs.{AreAttached, empty_trail};
 ghost use Rattle.ms_solver.specs.Extending.{AddsPlaces, KeepsNumbers, KeepsSlots, PutsToSleep};
 ghost use Rattle.ms_solver.specs.Numbered.{AreNumbers};
@@ -97,9 +99,19 @@ fn put_to_sleep(
     for a in externals {
         if a.0 >= first {
             let var = atoms[a.0 as usize];
-            let key = store.hold(Lit { var, truth: true })?;
+            let key = hold_false(var, store)?;
             sleepers.set(a.0 as usize, Some(key));
         }
     }
     Ok(())
+}
+
+/// Puts the nogood that a thing is true into the store, asleep.
+fn hold_false(number: u32, store: &mut Nogoods) -> Result<usize, OutOfMemory>
+    ensures { IfOk result (Adds store.old store.new (record { lits = holds number ∷ []; kind = None })) }
+{
+    store.hold(Lit {
+        var: number,
+        truth: true,
+    })
 }

@@ -1,4 +1,5 @@
 ghost use Rattle.std.specs.Prelude.{ℕ, ◌≡◌, [], Some, length, slice_get};
+ghost use Rattle.ms_nogood.specs.Store.{IsAsleepAt, Wakes};
 ghost use Rattle.ms_join.specs.Modules.{Join, no_join};
 ghost use Rattle.ms_search.specs.Runs.{AreAttached, empty_trail};
 ghost use Rattle.ms_solver.specs.States.{CanRelease, Knowledge, Releases, Serves, kept_of};
@@ -79,17 +80,17 @@ impl<P: Propagate + Drop> SolverBy<P> {
         ensures in_step { P.InStep self.new.search.propagation self.new.knows.store (empty_trail self.new.search.room) }
     {
         inputs_keep_consequences();
-        self.store.wake(sleeper_of(&self.sleepers, a));
+        wake_sleeper(&mut self.store, &self.sleepers, a);
     }
 }
 
-/// The key of the nogood that sleeps for an atom.
-fn sleeper_of(sleepers: &Sleepers, a: AtomId) -> usize
-    requires { (key : ℕ) × (slice_get sleepers.now a ≡ Some (Some key)) }
-    ensures { slice_get sleepers.now a ≡ Some (Some result) }
+/// Wakes the nogood that sleeps for an atom.
+fn wake_sleeper(store: &mut Nogoods, sleepers: &Sleepers, a: AtomId)
+    requires { (key : ℕ) × (slice_get sleepers.now a ≡ Some (Some key)) × IsAsleepAt store.old key }
+    ensures { (key : ℕ) → slice_get sleepers.now a ≡ Some (Some key) → Wakes store.old store.new key }
 {
     match sleepers.as_slice()[a.0 as usize] {
-        Some(key) => key,
+        Some(key) => store.wake(key),
         None => unreachable!(),
     }
 }

@@ -20,9 +20,9 @@ loop-a-preserved c =
     elim c.if-a-first.branch [
       | then-a-first+in_ok-key w ↦
           subst (λ (s : Store). PutsToSleep c.args.first (take (c.loop-a.a-index + 1) c.args.externals.now) c.args.atoms.now c.args.store.now c.args.sleepers.now s c.if-a-first.sleepers) (sym w.store-is)
-          (sleep_more c.args.first e _ w.in_ok-key.key front (take (c.loop-a.a-index + 1) c.args.externals.now) c.args.atoms.now c.args.store.now c.loop-a.store w.hold.new.self
+          (sleep_more c.args.first e _ w.in_ok-key.key front (take (c.loop-a.a-index + 1) c.args.externals.now) c.args.atoms.now c.args.store.now c.loop-a.store w.hold_false.new.store
           c.args.sleepers.now c.loop-a.sleepers c.if-a-first.sleepers c.loop-a.invariant next w.if-a-first.true within (slice_get-get_or c.args.atoms.now e 0 inside)
-          w.in_ok-key.ensures.held (w.sleepers-is ∙ w.set.ensures))
+          w.in_ok-key.ensures (w.sleepers-is ∙ w.set.ensures))
       | else-a-first w ↦
           subst (λ (s : Store). PutsToSleep c.args.first (take (c.loop-a.a-index + 1) c.args.externals.now) c.args.atoms.now c.args.store.now c.args.sleepers.now s c.if-a-first.sleepers) (sym w.store-is)
           (subst (λ (xs : List (Option ℕ)). PutsToSleep c.args.first (take (c.loop-a.a-index + 1) c.args.externals.now) c.args.atoms.now c.args.store.now c.args.sleepers.now c.loop-a.store xs) (sym w.sleepers-is)
