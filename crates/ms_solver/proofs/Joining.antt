@@ -1,5 +1,5 @@
 -- A solver serves the join with a module once completion and loops took it and a nogood sleeps for each new input.
-use Rattle.std.proofs.Common.{◌≡◌, ◌∙◌, ◌⊎◌, ◌++◌, ◌+◌, ◌<◌, ◌≤◌, ℕ, Bool, List, [], ◌∷◌, Option, Some, None, length, get_or, refl, sym, ap, subst, inl, inr, arith, length-append}
+use Rattle.std.proofs.Common.{◌≡◌, ◌∙◌, ◌++◌, ◌+◌, ◌<◌, ◌≤◌, ℕ, List, [], ◌∷◌, Option, Some, None, length, get_or, refl, sym, ap, subst, inl, inr, arith, length-append}
 use Rattle.std.specs.Prelude.{IsSomeAnd, slice_get}
 use Rattle.std.specs.List.{All, Contains}
 use Rattle.std.proofs.lemmas.List.Elements.{All-contains, All-weaker, Contains-append_cases}
@@ -17,7 +17,6 @@ use Rattle.ms_things.specs.Completion.{IsCompletionNogood}
 use Rattle.ms_loops.specs.Laws.{ConsequencesStay}
 use Rattle.ms_complete.specs.Completing.{AreOf, CanTake, Completes}
 use Rattle.ms_complete.specs.Keys.{plain_body}
-use Rattle.ms_complete.specs.Notes.{AreNamed}
 use Rattle.ms_complete.specs.Numbering.{IsFrom, IsHeadThing, IsOfRule, Numbering}
 use Rattle.ms_complete.specs.Rules.{holds}
 use Rattle.ms_complete.proofs.Lists.{any_from, at_left, member_of}
@@ -27,7 +26,7 @@ use Rattle.ms_unfound.specs.Taking.{Takes}
 use Rattle.ms_unfound.proofs.WithCompletion.{taken_with_completion}
 use Rattle.ms_solver.specs.Extending.{AddsPlaces, KeepsSlots, PutsToSleep}
 use Rattle.ms_solver.specs.Numbered.{AreNumbers}
-use Rattle.ms_solver.specs.States.{CanExtend, HasSleeper, IsLasting, Joins, Knowledge, Serves, kept_of}
+use Rattle.ms_solver.specs.States.{HasSleeper, IsLasting, Joins, Knowledge, Serves, kept_of}
 use Rattle.ms_solver.proofs.Lasting.{lasting_joined}
 use Rattle.ms_solver.proofs.Stores.{exactly_still, kept_stays, order_stays, slots_from, slots_keep_kept, slots_keep_lasting}
 

@@ -1,26 +1,23 @@
 -- What is kept stays a consequence, and what is stored is known.
-use Rattle.std.proofs.Common.{◌≡◌, ◌∙◌, ◌⊎◌, ◌++◌, ◌+◌, ◌<◌, ℕ, zero, suc, Bool, true, List, Option, Some, None, option_map, length, refl, sym, ap, subst, inl, inr, arith, length-append}
-use Rattle.std.specs.List.{All, Contains}
+use Rattle.std.proofs.Common.{◌≡◌, ◌∙◌, ◌++◌, ◌<◌, ℕ, zero, suc, true, List, Some, option_map, length, sym, ap, subst, inl, inr, arith, length-append}
 use Rattle.std.proofs.lemmas.List.Elements.{All-contains, All-weaker}
 use Rattle.ms_lits.specs.declared.lit.Lit.{Lit}
 use Rattle.ms_lits.specs.Literals.{Nogood}
-use Rattle.ms_nogood.specs.Store.{Store, Stored, holds_kept, is_kept, nogood_at, slot_at}
-use Rattle.ms_nogood.specs.declared.kind.Kind.TheVariants.{Base, Kept}
+use Rattle.ms_nogood.specs.Store.{Stored, holds_kept, is_kept, slot_at}
 use Rattle.ms_join.specs.declared.ground_module.GroundModule.{GroundModule}
-use Rattle.ms_join.specs.Modules.{Join, IsAssigned, IsInput, IsJoin}
+use Rattle.ms_join.specs.Modules.{Join, IsInput, IsJoin}
 use Rattle.ms_join.specs.Things.{Thing}
 use Rattle.ms_things.specs.Numbers.{AreThings}
 use Rattle.ms_loops.specs.Laws.{ConsequencesStay, InputsKeepConsequences, NogoodsAreConsequences}
-use Rattle.ms_complete.specs.Bases.{base_of}
 use Rattle.ms_complete.proofs.Assigned.{are_of_assigned}
 use Rattle.ms_complete.proofs.Lists.{any_from}
 use Rattle.ms_lawful.proofs.Lists.{filter_map-Contains}
-use Rattle.ms_search.specs.Problems.{kept_nogoods, literals_at}
+use Rattle.ms_search.specs.Problems.{literals_at}
 use Rattle.ms_search.proofs.Begins.{awake_slot}
 use Rattle.ms_unfound.proofs.InputLoops.{assign_keeps_loops}
-use Rattle.ms_solver.specs.Laws.{AssignedIsServed, IsLearned, IsOfProgram, LeadsTo, LearnedLasts, Moment, StoredIsConsequence, StoredIsKnown}
+use Rattle.ms_solver.specs.Laws.{AssignedIsServed, LeadsTo, LearnedLasts, Moment, StoredIsConsequence, StoredIsKnown}
 use Rattle.ms_solver.specs.Numbered.{AreNumbers}
-use Rattle.ms_solver.specs.States.{IsLasting, Joins, Knowledge, Serves, kept_of}
+use Rattle.ms_solver.specs.States.{IsLasting, Joins, kept_of}
 
 pub lasting_joined : ConsequencesStay → (old new : Join) (m : GroundModule) (things more : List Thing) (nogood : Nogood) → IsJoin old → AreThings old things → Joins old m new
     → IsLasting old things nogood → IsLasting new (things ++ more) nogood
@@ -65,10 +62,12 @@ stored_is_known s j key stored serves found =
     let slot : slot_at s.store key ≡ Some stored = awake_slot (slot_at s.store key) stored found in
     elim (serves.lasting key stored found) [
       | inl base ↦ inl (base, (serves.of.completion stored.lits).0 (key, slot ∙ ap (λ kind. Some (record { lits = stored.lits; kind = kind })) base))
-      | inr kept ↦ inr (kept,
-          let holds : holds_kept (slot_at s.store key) ≡ true = ap holds_kept slot ∙ ap is_kept kept in
-          All-contains (IsLasting j s.numbering.things) (kept_of s) stored.lits serves.kept
-          (filter_map-Contains (literals_at s.store) key stored.lits s.store.kept (serves.order.every_one key holds) (ap (option_map (λ (t : Stored). t.lits)) slot)))
+      | inr kept ↦ inr (
+        kept,
+        let holds : holds_kept (slot_at s.store key) ≡ true = ap holds_kept slot ∙ ap is_kept kept in
+            All-contains (IsLasting j s.numbering.things) (kept_of s) stored.lits serves.kept
+            (filter_map-Contains (literals_at s.store) key stored.lits s.store.kept (serves.order.every_one key holds) (ap (option_map (λ (t : Stored). t.lits)) slot)),
+      )
     ]
 
 pub stored_is_consequence : NogoodsAreConsequences → StoredIsConsequence

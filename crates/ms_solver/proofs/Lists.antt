@@ -1,5 +1,5 @@
 -- Places in lists that grow, and facts that hold once a call is done.
-use Rattle.std.proofs.Common.{◌≡◌, ◌⊎◌, ℕ, zero, suc, List, [], ◌∷◌, ◌++◌, Some, None, Result, Ok, Err, OnOk, length, refl, ap, inl, inr}
+use Rattle.std.proofs.Common.{◌≡◌, ◌⊎◌, ℕ, zero, suc, List, [], ◌∷◌, ◌++◌, Some, Result, Ok, Err, OnOk, length, refl, ap, inl, inr}
 use Rattle.std.specs.Prelude.{slice_get}
 use Rattle.ms_complete.proofs.Lists.{none_is_some, same_some}
 

@@ -1,15 +1,12 @@
 -- A solver serves the join where an input was released, once the nogood that slept for it is woken.
-use Rattle.std.proofs.Common.{◌≡◌, ◌∙◌, ◌⊎◌, ℕ, Bool, true, List, [], ◌∷◌, Option, Some, None, option_map, refl, sym, ap, subst, inl, inr, length}
+use Rattle.std.proofs.Common.{◌≡◌, ◌∙◌, ℕ, [], ◌∷◌, Some, None, option_map, refl, sym, ap, subst, inl}
 use Rattle.std.specs.Prelude.{slice_get}
 use Rattle.std.specs.List.{All}
-use Rattle.std.proofs.lemmas.Bool.{cases_eq}
 use Rattle.std.proofs.lemmas.List.Elements.{All-weaker}
-use Rattle.ms_lits.specs.declared.lit.Lit.{Lit}
 use Rattle.ms_lits.specs.Literals.{Nogood}
 use Rattle.ms_nogood.specs.Store.{IsAsleepAt, Store, Stored, Wakes, slot_at}
 use Rattle.ms_join.specs.declared.ground_rule.Input.{Input}
 use Rattle.ms_join.specs.Modules.{Join, IsInput}
-use Rattle.ms_join.specs.Things.{Thing}
 use Rattle.ms_join.specs.Things.Thing.{atom}
 use Rattle.ms_loops.specs.Laws.{InputsKeepConsequences}
 use Rattle.ms_complete.specs.Rules.{holds}
@@ -55,8 +52,8 @@ module _ (s : Knowledge) (j : Join) (serves : Serves s j) (a key : ℕ) (input :
         let back = (is.released.inputs i).0 (k, within, found) in
         let h = serves.sleepers b (any_from (λ (i : Input). i.atom ≡ b) j.inputs i back.0 same) in
         let differ : h.key ≡ key → ⊥ = λ alike.
-            let number : h.number ≡ own.number = same_number h.number own.number (sym h.asleep ∙ (ap (slot_at s.store) alike ∙ sleeps_there)) in
-            back.1 (same ∙ same_atom b a (sym h.thing ∙ (ap (slice_get s.numbering.things) number ∙ own.thing))) in
+        let number : h.number ≡ own.number = same_number h.number own.number (sym h.asleep ∙ (ap (slot_at s.store) alike ∙ sleeps_there)) in
+        back.1 (same ∙ same_atom b a (sym h.thing ∙ (ap (slice_get s.numbering.things) number ∙ own.thing))) in
         record { key = h.key; at = h.at; number = h.number; thing = h.thing; asleep = w.others h.key differ ∙ h.asleep }
 
     pub released_serves : Serves (record s { store = after }) released
@@ -74,6 +71,3 @@ module _ (s : Knowledge) (j : Join) (serves : Serves s j) (a key : ℕ) (input :
       places = serves.places ∙ sym is.released.atoms;
       atoms = subst (λ (n : ℕ). AreNumbers s.numbering.things n s.atoms) (sym is.released.atoms) serves.atoms;
     }
-
-    pub released_keeps : kept_of (record s { store = after }) ≡ kept_of s
-    released_keeps = kept_stays s.store after serves.order (woken_keeps_kept s.store after key (sleeper own.number) sleeps_there refl w)

@@ -1,16 +1,16 @@
 -- Numbers and sleepers of new atoms, one after the other.
-use Rattle.std.proofs.Common.{◌≡◌, ◌≢◌, ◌∙◌, ◌⊎◌, ◌+◌, ◌<◌, ◌≤◌, ℕ, List, [], ◌∷◌, ◌++◌, Option, Some, None, take, length, get_or, set, refl, sym, ap, subst, inl, inr, arith, append_assoc}
+use Rattle.std.proofs.Common.{◌≡◌, ◌≢◌, ◌∙◌, ◌⊎◌, ◌+◌, ◌<◌, ◌≤◌, ℕ, List, [], ◌∷◌, ◌++◌, Option, Some, None, length, set, refl, sym, ap, subst, inl, inr, arith, append_assoc}
 use Rattle.std.specs.Prelude.{slice_get}
 use Rattle.std.specs.List.{Contains}
 use Rattle.std.proofs.lemmas.Bool.{cases_eq}
 use Rattle.std.proofs.lemmas.List.{append-nil, get_or-set_other, get_or-set_same, length-set, length_push}
 use Rattle.std.proofs.lemmas.List.Elements.{Contains-append_cases}
 use Rattle.std.proofs.lemmas.Option.{get_or_from_slice_get, slice_get-get_or, slice_get_cases, slice_get_within}
-use Rattle.ms_nogood.specs.Store.{Adds, Store, Stored, slot_at}
+use Rattle.ms_nogood.specs.Store.{Adds, Store, slot_at}
 use Rattle.ms_join.specs.Things.{Thing}
 use Rattle.ms_join.specs.Things.Thing.{atom}
 use Rattle.ms_complete.specs.Rules.{holds}
-use Rattle.ms_complete.proofs.Lists.{at_left, member_cases, member_none, next_one, none_is_some}
+use Rattle.ms_complete.proofs.Lists.{at_left, member_cases, member_none, none_is_some}
 use Rattle.ms_solver.specs.Extending.{AddsPlaces, PutsToSleep, SleepsAt}
 use Rattle.ms_solver.specs.Numbered.{AreNumbers}
 use Rattle.ms_solver.proofs.Lists.{push_cases}
@@ -116,6 +116,7 @@ sleep_more first e number key externals more atoms old mid new sleepers widened 
           | inl at ↦ inl (at.0, at.2)
           | inr past ↦ inr past.0
         ]
+
     here : (a : ℕ) → a ≡ e → SleepsAt atoms new after a
     here a same = subst (λ (b : ℕ). SleepsAt atoms new after b) (sym same) (record {
       key = key;
@@ -124,6 +125,7 @@ sleep_more first e number key externals more atoms old mid new sleepers widened 
       numbered = numbered;
       asleep = adds.added;
     })
+
     there : (a : ℕ) → a ≢ e → SleepsAt atoms mid widened a → SleepsAt atoms new after a
     there a differ s = record {
       key = s.key;

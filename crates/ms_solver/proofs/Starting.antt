@@ -1,7 +1,7 @@
 -- What serves the join of no modules, and how many nogoods are kept.
-use Rattle.std.proofs.Common.{◌≡◌, ◌∙◌, ◌-◌, ◌≤◌, ℕ, Bool, true, List, [], Option, Some, None, take, length, get_or, option_map, refl, sym, ap, subst, arith}
+use Rattle.std.proofs.Common.{◌≡◌, ◌∙◌, ◌-◌, ℕ, true, List, [], Option, Some, None, take, length, get_or, option_map, refl, sym, ap, subst, arith}
 use Rattle.std.specs.Prelude.{IfSome, ◌<◌, ◌≢◌, is_some, slice_get}
-use Rattle.std.specs.List.{All, AllPairs, Any}
+use Rattle.std.specs.List.{AllPairs}
 use Rattle.std.proofs.lemmas.List.{take_all}
 use Rattle.std.proofs.lemmas.List.Elements.{All-nil}
 use Rattle.ms_nogood.specs.Store.{AreKept, Store, Stored, holds_kept, slot_at}
@@ -16,7 +16,7 @@ use Rattle.ms_search.specs.Problems.{kept_nogoods, literals_at}
 use Rattle.ms_search.proofs.Lists.{filter_map-length}
 use Rattle.ms_unfound.specs.Parts.{Known}
 use Rattle.ms_unfound.specs.Taking.{AreLoopsOf}
-use Rattle.ms_solver.specs.States.{IsLasting, Knowledge, Serves, kept_of}
+use Rattle.ms_solver.specs.States.{IsLasting, Knowledge, Serves}
 
 no_pairs : {X : Type 0} (P : X → X → Type 0) → AllPairs P []
 no_pairs P i k d less within = absurd (omega (arith, within))

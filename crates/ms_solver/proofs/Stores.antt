@@ -1,15 +1,15 @@
 -- Stores that keep what they have.
-use Rattle.std.proofs.Common.{◌≡◌, ◌∙◌, ◌⊎◌, ℕ, Bool, true, false, List, [], ◌∷◌, ◌++◌, Option, Some, None, get_or, option_map, refl, sym, ap, subst, inl, inr}
+use Rattle.std.proofs.Common.{◌≡◌, ◌∙◌, ◌⊎◌, ℕ, Bool, true, List, [], ◌∷◌, ◌++◌, Option, Some, None, get_or, option_map, refl, sym, ap, subst, inl, inr}
 use Rattle.std.specs.Prelude.{is_some}
 use Rattle.std.specs.List.{Contains, filter_map}
-use Rattle.std.proofs.lemmas.Bool.{both_ways, cases_eq}
+use Rattle.std.proofs.lemmas.Bool.{cases_eq}
 use Rattle.std.proofs.lemmas.List.Elements.{Contains-append_left, Contains-push}
 use Rattle.ms_lits.specs.Literals.{Nogood}
-use Rattle.ms_nogood.specs.Store.{Adds, AreKept, IsAsleepAt, Store, Stored, Wakes, awake_in, holds_kept, is_kept, kept_after, nogood_at, slot_at}
+use Rattle.ms_nogood.specs.Store.{Adds, AreKept, Store, Stored, Wakes, awake_in, holds_kept, is_kept, kept_after, slot_at}
 use Rattle.ms_nogood.specs.declared.kind.Kind.{Kind}
-use Rattle.ms_nogood.specs.declared.kind.Kind.TheVariants.{Base, Kept}
+use Rattle.ms_nogood.specs.declared.kind.Kind.TheVariants.{Base}
 use Rattle.ms_nogood.specs.Watching.{HasSameLits}
-use Rattle.ms_complete.specs.Bases.{HasBase, HasExactly, KeepsKeys, base_of}
+use Rattle.ms_complete.specs.Bases.{HasExactly, KeepsKeys, base_of}
 use Rattle.ms_complete.proofs.Lists.{none_is_some, same_some}
 use Rattle.ms_search.specs.Problems.{AreLasting, kept_nogoods, literals_at}
 use Rattle.ms_search.specs.Runs.{AreAttached}
@@ -163,8 +163,10 @@ sleeps_more old mid new s key first asleep adds = record {
       | inl same ↦ absurd (none_is_some stored (sym (ap (slot_at mid) same ∙ adds.was_free) ∙ at))
       | inr differ ↦ adds.others k differ ∙ at
     ]
+
     fresh_still : (k : ℕ) → Contains mid.fresh k → Contains new.fresh k
     fresh_still k has = subst (λ (ks : List ℕ). Contains ks k) (sym adds.fresh) (Contains-append_left mid.fresh (key ∷ []) k has)
+
     kept_same : new.kept ≡ mid.kept
     kept_same = adds.kept ∙ ap (λ (kind : Option Kind). kept_after mid.kept kind key) asleep
 

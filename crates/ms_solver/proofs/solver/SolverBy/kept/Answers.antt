@@ -1,5 +1,4 @@
-use Rattle.std.proofs.Common.{◌≡◌, ◌∙◌, List, length, ap}
-use Rattle.ms_lits.specs.Literals.{Nogood}
+use Rattle.std.proofs.Common.{◌≡◌, ◌∙◌, length, ap}
 use Rattle.ms_nogood.specs.Store.{Store}
 use Rattle.ms_search.specs.Problems.{kept_nogoods}
 use Rattle.ms_solver.specs.States.{State}
