@@ -9,3 +9,4 @@ pub mod TakeLaws
 pub mod InputLoops
 pub mod Admitted
 pub mod WithCompletion
+pub mod WatchLaws

@@ -118,7 +118,7 @@ module _ (old : Known) (m : GroundModule) (j joined : Join) (things more : List 
       loops_of_old j joined m can.join can.well_formed can.composable can.is_joined things more can.are can.become nogood (can.loops.each nogood (record { within = within; of_part = any }))
 
   old_all : (parts : List Part) → ((nogood : Nogood) → Any (λ part. IsLoopOf part nogood) old.parts → Any (λ part. IsLoopOf part nogood) parts) → (nogood : Nogood) → IsLoopNogood j things nogood
-      → IsGiven (record { vars = length now; parts = parts }) nogood ⊎ IsCompletionNogood joined now nogood
+      → IsGiven (record { vars = length now; parts = parts; seen = old.seen }) nogood ⊎ IsCompletionNogood joined now nogood
   old_all parts stay nogood l = elim (can.loops.all nogood l) [
     | inl given ↦
         let fewer : old.vars ≤ length now = omega (arith, can.loops.vars, length-append things more) in
@@ -133,7 +133,7 @@ module _ (old : Known) (m : GroundModule) (j joined : Join) (things more : List 
   divides nogood = divided j joined m can.join can.well_formed can.composable can.is_joined things more can.are can.become nogood
 
   -- without a part
-  pub loops_kept : HasNoMember m → AreLoopsOf joined now (record { vars = length now; parts = old.parts })
+  pub loops_kept : HasNoMember m → AreLoopsOf joined now (record { vars = length now; parts = old.parts; seen = old.seen })
   loops_kept none = record {
     vars = refl;
     each = λ nogood given. old_each nogood given.of_part;
@@ -144,7 +144,7 @@ module _ (old : Known) (m : GroundModule) (j joined : Join) (things more : List 
   }
 
   -- with one
-  pub loops_more : (part : Part) → IsPartOfModule now m part → AreLoopsOf joined now (record { vars = length now; parts = old.parts ++ part ∷ [] })
+  pub loops_more : (part : Part) → IsPartOfModule now m part → AreLoopsOf joined now (record { vars = length now; parts = old.parts ++ part ∷ []; seen = old.seen })
   loops_more part is =
       let parts : List Part = old.parts ++ part ∷ [] in
       let stay : (nogood : Nogood) → Any (λ p. IsLoopOf p nogood) old.parts → Any (λ p. IsLoopOf p nogood) parts = λ nogood any. any_left (λ p. IsLoopOf p nogood) old.parts (part ∷ []) any in
@@ -182,23 +182,27 @@ cycle_there m members are some none = some (empty_from members.atoms (λ a there
     let together = (are.is.components round.head b (slice_index members.numbers i) round.number).0 number in
     none round.head b (inl (k, rule, within, at_rule, (round.is_head, (n, inside, at_b)))) together.back))
 
-pub takes_kept : (old : Known) (m : GroundModule) (now : List Thing) → All (IsPart old.vars) old.parts → HasNoMember m → Takes old m now (record { vars = length now; parts = old.parts })
+pub takes_kept : (old : Known) (m : GroundModule) (now : List Thing) → All (IsPart old.vars) old.parts → HasNoMember m → Takes old m now (record { vars = length now; parts = old.parts; seen = old.seen })
 takes_kept old m ends are none = record {
-  loops = λ j joined things more is can. subst (λ (ts : List Thing). AreLoopsOf joined ts (record { vars = length ts; parts = old.parts })) (sym is) (loops_kept old m j joined things more can are none);
+  vars = refl;
+  seen = refl;
+  loops = λ j joined things more is can. subst (λ (ts : List Thing). AreLoopsOf joined ts (record { vars = length ts; parts = old.parts; seen = old.seen })) (sym is) (loops_kept old m j joined things more can are none);
   nothing = λ _. refl;
 }
 
-pub takes_more : (old : Known) (m : GroundModule) (now : List Thing) (part : Part) → All (IsPart old.vars) old.parts → IsPartOfModule now m part → Takes old m now (record { vars = length now; parts = old.parts ++ part ∷ [] })
+pub takes_more : (old : Known) (m : GroundModule) (now : List Thing) (part : Part) → All (IsPart old.vars) old.parts → IsPartOfModule now m part → Takes old m now (record { vars = length now; parts = old.parts ++ part ∷ []; seen = old.seen })
 takes_more old m ends part are is = record {
+  vars = refl;
+  seen = refl;
   loops = λ j joined things more same can.
-      subst (λ (ts : List Thing). AreLoopsOf joined ts (record { vars = length ts; parts = old.parts ++ part ∷ [] })) (sym same)
+      subst (λ (ts : List Thing). AreLoopsOf joined ts (record { vars = length ts; parts = old.parts ++ part ∷ []; seen = old.seen })) (sym same)
       (loops_more old m j joined things more can are part (subst (λ (ts : List Thing). IsPartOfModule ts m part) same is));
   nothing = λ none. absurd (cycle_there m is.members is.are is.some none);
 }
 
 -- ---- the join of no modules
 
-pub no_loops : AreLoopsOf no_join [] (record { vars = 0; parts = [] })
+pub no_loops : AreLoopsOf no_join [] (record { vars = 0; parts = []; seen = [] })
 no_loops = record {
   vars = refl;
   each = λ nogood given. absurd (any_none (λ part. IsLoopOf part nogood) given.of_part);

@@ -5,4 +5,5 @@ pub mod Marks
 pub mod Accepted
 pub mod Members
 pub mod Taking
+pub mod Watched
 pub mod Laws

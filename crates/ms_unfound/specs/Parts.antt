@@ -1,13 +1,15 @@
 -- What the theory keeps of the modules of a join: the atoms of their cyclic components, by the variables that these have,
 -- and the rules with these atoms as heads.
 use Rattle.std.specs.Prelude.{ℕ, ◌≡◌, ◌≢◌, ◌<◌, List, All, length, slice_index}
+use Rattle.ms_lits.specs.declared.trail.Entry.{Entry}
 use Rattle.ms_unfound.specs.declared.part.Support.{Support}
 use Rattle.ms_unfound.specs.declared.part.Part.{Part}
 
--- The number of variables, and a part for each module with a cyclic component.
+-- The number of variables, a part for each module with a cyclic component, and the entries of a trail that have been seen.
 pub record Known : Type 0 where
   pub vars : ℕ
   pub parts : List Part
+  pub seen : List Entry
 
 -- the atoms in two places are in one component
 abbrev pub AreInOne : Part → ℕ → ℕ → Type 0

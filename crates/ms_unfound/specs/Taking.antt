@@ -107,7 +107,10 @@ pub record CanTake (j : Join) (things : List Thing) (known : Known) (m : GroundM
 abbrev pub HasNoCycle : GroundModule → Type 0
 HasNoCycle m = (a b : ℕ) → Depends (added_rules m) a b → ¬ Reaches (added_rules m) b a
 
--- Where the module can be joined, the loop nogoods are those of the new join. A module without cycles adds nothing.
+-- It speaks of all things. Where the module can be joined, the loop nogoods are those of the new join. A module without
+-- cycles adds nothing.
 pub record Takes (old : Known) (m : GroundModule) (now : List Thing) (new : Known) : Type 0 where
+  pub vars : new.vars ≡ length now
+  pub seen : new.seen ≡ old.seen
   pub loops : (j joined : Join) (things more : List Thing) → now ≡ things ++ more → CanTake j things old m joined more → AreLoopsOf joined now new
   pub nothing : HasNoCycle m → new.parts ≡ old.parts

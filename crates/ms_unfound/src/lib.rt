@@ -8,6 +8,7 @@ mod part;
 mod search;
 mod taking;
 mod unfounded;
+mod watch;
 mod written;
 
 pub use laws::{

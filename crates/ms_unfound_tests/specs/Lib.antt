@@ -1,1 +1,2 @@
 pub mod Tiny
+pub mod Benches

@@ -1,6 +1,8 @@
 // Modules of four atoms: three heads and an input.
-ghost use Rattle.std.specs.Prelude.{IfOk, ◌<◌, length};
-ghost use Rattle.ms_unfound_tests.specs.Tiny.{AreTinyRules, IsTinyModule, IsTinyRule, IsTinySet};
+ghost use Rattle.std.specs.Prelude.{All, IfOk, ◌<◌, ◌≢◌};
+ghost use Rattle.ms_join.specs.declared.ground_rule.GroundKind.{GroundKind};
+ghost use Rattle.ms_join.specs.Modules.{IsWellFormed};
+ghost use Rattle.ms_unfound_tests.specs.Tiny.{IsTinyRule, IsTinySet};
 
 use ms_base::atom_id::AtomId;
 use ms_base::seq::Seq;
@@ -11,27 +13,19 @@ use ms_unfound::OutOfMemory;
 use std::alloc::Global;
 
 /// An atom that a module heads.
-#[derive(Clone, Copy)]
+#[derive(Clone, Copy, PartialEq)]
 pub(crate) enum Head {
     A,
     B,
     C,
 }
 
-/// An atom of the base.
-#[derive(Clone, Copy)]
-pub(crate) enum Atom {
-    Head(Head),
-    Input,
-}
-
-/// A rule with at most one positive and one negated atom.
-#[derive(Clone, Copy)]
-pub(crate) struct TinyRule {
-    pub is_choice: bool,
-    pub head: Head,
-    pub pos: Option<Atom>,
-    pub neg: Option<Atom>,
+/// A rule: with one positive atom, which may be the input, or a choice without a body.
+#[derive(Clone, Copy, PartialEq)]
+pub(crate) enum TinyRule {
+    From(Head, Head),
+    FromInput(Head),
+    Choice(Head),
 }
 
 fn number_of(head: Head) -> AtomId
@@ -44,46 +38,53 @@ fn number_of(head: Head) -> AtomId
     }
 }
 
-fn atom_of(atom: Atom) -> AtomId
-    ensures { result < 4 }
-{
-    match atom {
-        Atom::Head(head) => number_of(head),
-        Atom::Input => AtomId(3),
-    }
-}
-
-fn atoms_of(alloc: Global, atom: Option<Atom>) -> Result<AtomIds, OutOfMemory>
+fn set_of(alloc: Global, atom: AtomId) -> Result<AtomIds, OutOfMemory>
+    requires { atom < 4 }
     ensures { IfOk result IsTinySet }
 {
     let mut atoms = Seq::new(alloc);
-    if let Some(atom) = atom {
-        atoms.push(atom_of(atom))?;
-    }
+    atoms.push(atom)?;
     Ok(atoms)
+}
+
+fn body_of(alloc: Global, row: TinyRule) -> Result<AtomIds, OutOfMemory>
+    ensures { IfOk result IsTinySet }
+{
+    match row {
+        TinyRule::From(_, atom) => set_of(alloc, number_of(atom)),
+        TinyRule::FromInput(_) => set_of(alloc, AtomId(3)),
+        TinyRule::Choice(_) => Ok(Seq::new(alloc)),
+    }
+}
+
+fn head_of(row: TinyRule) -> (GroundKind, AtomId)
+    ensures head { result.1 < 3 }
+    ensures kind { result.0 ≢ GroundKind.Constraint }
+{
+    match row {
+        TinyRule::From(head, _) | TinyRule::FromInput(head) => {
+            (GroundKind::Normal, number_of(head))
+        }
+        TinyRule::Choice(head) => (GroundKind::Choice, number_of(head)),
+    }
 }
 
 fn rule_of(alloc: Global, row: TinyRule) -> Result<GroundRule, OutOfMemory>
     ensures { IfOk result IsTinyRule }
 {
-    let pos = atoms_of(alloc, row.pos)?;
-    let neg = atoms_of(alloc, row.neg)?;
-    let kind = if row.is_choice {
-        GroundKind::Choice
-    } else {
-        GroundKind::Normal
-    };
+    let pos = body_of(alloc, row)?;
+    let (kind, head) = head_of(row);
     Ok(GroundRule {
         kind,
-        head: Some(number_of(row.head)),
+        head: Some(head),
         pos,
-        neg,
+        neg: Seq::new(alloc),
         aggs: Seq::new(alloc),
     })
 }
 
 fn rules_of(alloc: Global, rows: &[TinyRule]) -> Result<GroundRules, OutOfMemory>
-    ensures { IfOk result (AreTinyRules (length rows.now)) }
+    ensures { IfOk result (All IsTinyRule) }
 {
     let mut rules = Seq::new(alloc);
     for row in rows {
@@ -94,8 +95,7 @@ fn rules_of(alloc: Global, rows: &[TinyRule]) -> Result<GroundRules, OutOfMemory
 
 /// The module of these rules.
 pub(crate) fn module_of(alloc: Global, rows: &[TinyRule]) -> Result<GroundModule, OutOfMemory>
-    requires { length rows.now < 1000 }
-    ensures { IfOk result IsTinyModule }
+    ensures { IfOk result (IsWellFormed 0) }
 {
     let rules = rules_of(alloc, rows)?;
     Ok(GroundModule {
