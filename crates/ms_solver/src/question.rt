@@ -1,0 +1,52 @@
+// What a solve demands, as literals.
+ghost use Rattle.std.specs.Prelude.{◌≡◌, ◌<◌, ◌↔◌, All, AllPairs, Contains, IfOk, length};
+ghost use Rattle.ms_lits.specs.declared.lit.Lit.{Lit};
+ghost use Rattle.ms_join.specs.declared.assumption.AtomLit.{AtomLit};
+ghost use Rattle.ms_lawful.specs.Parts.{ComesBefore};
+ghost use Rattle.ms_complete.specs.Lines.{line_place};
+ghost use Rattle.ms_complete.specs.Sets.{Match};
+ghost use Rattle.ms_solver.specs.Numbered.{IsLitOf};
+
+use ms_base::memory::OutOfMemory;
+use ms_base::seq::Seq;
+use ms_join::assumption::AtomLit;
+use ms_lits::{Lit, Lits};
+use std::alloc::Global;
+
+/// The literals of assumptions over numbered atoms, in the order of a line.
+pub(crate) fn literals(
+    alloc: Global,
+    numbers: &[u32],
+    assume: &[AtomLit],
+) -> Result<Lits, OutOfMemory>
+    requires { All (λ given. given.atom < length numbers.now) assume.now }
+    ensures ordered { IfOk result (AllPairs ComesBefore) }
+    ensures says { IfOk result (Match (IsLitOf numbers.now) assume.now) }
+{
+    let mut lits = Vec::with_capacity(alloc, assume.len())?;
+    for given in assume {
+        lits.push(Lit {
+            var: numbers[given.atom.0 as usize],
+            truth: given.truth,
+        })?;
+    }
+    set_in_line(&mut lits);
+    Ok(Seq::from_vec(lits))
+}
+
+/// Brings literals into the order of a line, each once.
+fn set_in_line(lits: &mut Vec<Lit>)
+    ensures order { AllPairs ComesBefore lits.new.items }
+    ensures same { (l : Lit) → Contains lits.new.items l ↔ Contains lits.old.items l }
+{
+    lits.sort_unstable_by_key(|lit| place_in_line(*lit));
+    lits.dedup();
+}
+
+/// A number by which the literals of a line rise.
+fn place_in_line(lit: Lit) -> u64
+    ensures { result ≡ line_place lit }
+{
+    let first = 2 * u64::from(lit.var);
+    if lit.truth { first } else { first + 1 }
+}
