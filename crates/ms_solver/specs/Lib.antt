@@ -1,3 +1,4 @@
 pub mod Numbered
 pub mod States
 pub mod Extending
+pub mod Solves

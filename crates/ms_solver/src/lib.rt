@@ -2,7 +2,9 @@
 #![tactic(auto)]
 
 mod extending;
+mod question;
 mod solver;
+mod told;
 
 pub use ms_search::{OutOfMemory, Run};
 pub use solver::{Solver, SolverBy};
