@@ -2,3 +2,5 @@ pub mod Lists
 pub mod Stores
 pub mod Releasing
 pub mod Picked
+pub mod Listing
+pub mod Assignments

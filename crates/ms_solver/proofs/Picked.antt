@@ -18,7 +18,7 @@ use Rattle.ms_solver.specs.Numbered.{IsPickedFrom, atoms_of, places}
 pub alike : (t u : Bool) → (t ≡ true → u ≡ true) → (u ≡ true → t ≡ true) → t ≡ u
 alike t u to back = elim (cases_Bool t) [
   | inl is ↦ is ∙ sym (to is)
-  | inr no ↦ no ∙ sym (false_from_ne_true u (λ is. false≢true (sym no ∙ back is)))
+  | inr fails ↦ fails ∙ sym (false_from_ne_true u (λ is. false≢true (sym fails ∙ back is)))
 ]
 
 -- ---- a list as a set
@@ -32,7 +32,7 @@ has_from_set_of xs a is =
     subst (Contains xs) (eqb-true some.1 a some.4) (member_of (λ (b : ℕ). nat_eq b a ≡ true) xs some)
 
 pub set_of_lacks : (xs : List ℕ) (a : ℕ) → ¬ Contains xs a → set_of xs a ≡ false
-set_of_lacks xs a no = false_from_ne_true (set_of xs a) (λ is. no (has_from_set_of xs a is))
+set_of_lacks xs a lacks = false_from_ne_true (set_of xs a) (λ is. lacks (has_from_set_of xs a is))
 
 -- ---- filters
 
@@ -43,7 +43,7 @@ filter_alike t u (x ∷ xs) same =
     let head : t x ≡ u x = same x (member_here x xs) in
     elim (cases_Bool (u x)) [
       | inl is ↦ cond-true (t x) (x ∷ filter t xs) (filter t xs) (head ∙ is) ∙ (ap (λ (ys : List ℕ). x ∷ ys) rest ∙ sym (cond-true (u x) (x ∷ filter u xs) (filter u xs) is))
-      | inr no ↦ cond-false (t x) (x ∷ filter t xs) (filter t xs) (head ∙ no) ∙ (rest ∙ sym (cond-false (u x) (x ∷ filter u xs) (filter u xs) no))
+      | inr fails ↦ cond-false (t x) (x ∷ filter t xs) (filter t xs) (head ∙ fails) ∙ (rest ∙ sym (cond-false (u x) (x ∷ filter u xs) (filter u xs) fails))
     ]
 
 -- tests that leave the same of a list agree on it
@@ -147,7 +147,7 @@ places_alike t u from (n ∷ numbers) same =
     let head : t n ≡ u n = same n (member_here n numbers) in
     elim (cases_Bool (u n)) [
       | inl is ↦ cond-true (t n) (from ∷ xs) xs (head ∙ is) ∙ (ap (λ (zs : List ℕ). from ∷ zs) rest ∙ sym (cond-true (u n) (from ∷ ys) ys is))
-      | inr no ↦ cond-false (t n) (from ∷ xs) xs (head ∙ no) ∙ (rest ∙ sym (cond-false (u n) (from ∷ ys) ys no))
+      | inr fails ↦ cond-false (t n) (from ∷ xs) xs (head ∙ fails) ∙ (rest ∙ sym (cond-false (u n) (from ∷ ys) ys fails))
     ]
 
 -- the atoms of what a test leaves
@@ -199,4 +199,4 @@ pub atoms_back : (test : ℕ → Bool) (numbers set : List ℕ) → IsAtomSet (l
 atoms_back test numbers set is agree =
     places_back test 0 numbers set (AllPairs-from_increasing set is.rising)
     (λ a has. let high : a < length numbers = All-contains (λ (b : ℕ). b < length numbers) set a is.within has in (omega arith, omega (arith, high)))
-    (λ p k n same at. ap test (refl {x = n}) ∙ (agree k n at ∙ ap (set_of set) (let same' : p ≡ 0 + k = same in let back : k ≡ p = omega (arith, same') in back)))
+    (λ p k n same at. agree k n at ∙ ap (set_of set) (let same' : p ≡ 0 + k = same in let back : k ≡ p = omega (arith, same') in back))

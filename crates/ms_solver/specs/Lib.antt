@@ -2,3 +2,4 @@ pub mod Numbered
 pub mod States
 pub mod Extending
 pub mod Solves
+pub mod Admitted

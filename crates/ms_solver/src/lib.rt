@@ -1,10 +1,12 @@
 // The solver that lives on while a join of ground modules grows.
 #![tactic(auto)]
 
+mod admitted;
 mod extending;
 mod question;
 mod solver;
 mod told;
 
+pub use admitted::{admitted_are_asked, asked_are_found, atoms_decide};
 pub use ms_search::{OutOfMemory, Run};
 pub use solver::{Solver, SolverBy};
