@@ -21,7 +21,7 @@ use Rattle.ms_lawful.specs.Parts.{ComesBefore, kept_after, last_of, most_kept}
 use Rattle.ms_complete.specs.Sets.{Match}
 use Rattle.ms_search.specs.declared.ask.Ask.{Ask}
 use Rattle.ms_search.specs.declared.ask.Run.{Run}
-use Rattle.ms_solver.specs.Numbered.{numbers_in, said}
+use Rattle.ms_solver.specs.Numbered.{IsLitOf, numbers_in, said}
 use Rattle.ms_solver.specs.States.{Knowledge, Serves, kept_of}
 
 -- The set is an answer set of the join where each input is free, and has what is assumed.
@@ -53,6 +53,16 @@ pub record IsListed (j : Join) (things : List Thing) (numbers : List ℕ) (ask :
   pub set : List ℕ
   pub asked : IsAskedFor j ask set
   pub same : numbers_in things numbers set ≡ answer
+
+-- What a search is asked for on behalf of a solve: as many answers with the same limit, over all things, and the literals
+-- of what is assumed, in the order of a line.
+pub record IsQuestion (things : List Thing) (numbers : List ℕ) (ask : AtomAsk) (question : Ask) : Type 0 where
+  pub vars : question.vars ≡ length things
+  pub count : question.count ≡ ask.count
+  pub limit : question.limit ≡ ask.limit
+  pub ordered : AllPairs ComesBefore question.assume
+  pub says : Match (IsLitOf numbers) ask.assume question.assume
+  pub impossible : question.impossible ≡ ask.impossible
 
 -- What a solve is about: the completion and the loops of the join.
 abbrev pub problem_of : Join → List Thing → List ℕ → List Nogood → AtomAsk → List Lit → Problem
