@@ -22,7 +22,7 @@ use Rattle.ms_join.specs.Things.Thing.{atom, aggregate}
 use Rattle.ms_things.specs.Numbers.{AreThings, ext, known_truth}
 use Rattle.ms_things.specs.Signs.{IsContainedIn, IsFor}
 use Rattle.ms_loops.specs.Founded.{AgreesOnAtoms, ContainsNone, IsOverBase}
-use Rattle.ms_loops.specs.Laws.{AssignmentsArePossible, CompletionAndLoops}
+use Rattle.ms_loops.specs.Laws.{AssignmentsArePossible, CompletionAndLoops, PossibleIsOverBase}
 use Rattle.ms_lawful.specs.Problems.{HasNogood, HasNoKept, IsAdmitted, MeetsStart, Problem, holds_under, true_atoms}
 use Rattle.ms_complete.proofs.Lists.{all_from, any_from, any_none, at_some, member_of, none_is_some, same_some, some_at, some_once}
 use Rattle.ms_solver.specs.Numbered.{AreNumbers, atoms_of, numbers_in, places, said}
@@ -137,6 +137,19 @@ module _ (j : Join) (things : List Thing) (numbers : List ℕ) (ask : AtomAsk) (
       let sets : places truth 0 numbers ≡ places other 0 numbers = sym (atoms_of_filter truth numbers) ∙ (ap (atoms_of numbers) same ∙ atoms_of_filter other numbers) in
       one ∙ (ap (λ (set : List ℕ). ext (set_of set) things k) sets ∙ sym two)
 
+  -- the truths of the things in a possible set
+  pub admitted_by : CompletionAndLoops → PossibleIsOverBase → (set : ℕ → Bool) → IsPossible j set → IsAdmitted problem (ext set things)
+  admitted_by law over set possible =
+      let none = (law j things set asks.join asks.are (over j set asks.join possible)).0 possible in
+      record {
+        completed = λ n base has. none.completion n base (contained_from (ext set things) n has);
+        accepted = λ n loop has. none.loops n loop (contained_from (ext set things) n has);
+      }
+
+  pub none_kept_by : (set : ℕ → Bool) → IsPossible j set → All (IsLasting j things) kept → HasNoKept problem (ext set things)
+  none_kept_by set possible lasting = All-weaker (IsLasting j things) (λ (n : Nogood). ¬ HasNogood (ext set things) n)
+      (λ n l has. l.consequence set possible (contained_from (ext set things) n has)) kept lasting
+
   module _ (set : List ℕ) (is : IsAskedFor j ask set) where
     over : IsOverBase j (set_of set)
     over a has = All-contains (λ (b : ℕ). b < j.atoms) set a is.over_base.within (has_from_set_of set a has)
@@ -158,8 +171,7 @@ module _ (j : Join) (things : List Thing) (numbers : List ℕ) (ask : AtomAsk) (
                 (λ l some. truth_of some.1 l some.4 (All-contains (λ (s : AtomLit). set_of set s.atom ≡ s.truth) ask.assume some.1 is.assumed (member_of (λ (s : AtomLit). IsFor things (said s) l) ask.assume some)))
                 start asks.demands.says.each);
           };
-          none_kept = All-weaker (IsLasting j things) (λ (n : Nogood). ¬ HasNogood (ext (set_of set) things) n)
-              (λ n l has. l.consequence (set_of set) is.answers (contained_from (ext (set_of set) things) n has)) kept lasting;
+          none_kept = none_kept_by (set_of set) is.answers lasting;
         }
 
 pub admitted_are_asked : AssignmentsArePossible → AdmittedAreAsked

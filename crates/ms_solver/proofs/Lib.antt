@@ -4,3 +4,4 @@ pub mod Releasing
 pub mod Picked
 pub mod Listing
 pub mod Assignments
+pub mod Solved

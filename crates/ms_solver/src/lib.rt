@@ -5,6 +5,7 @@ mod admitted;
 mod extending;
 mod question;
 mod solver;
+mod solving;
 mod told;
 
 pub use admitted::{admitted_are_asked, asked_are_found, atoms_decide};

@@ -6,15 +6,38 @@ ghost use Rattle.ms_lawful.specs.Parts.{ComesBefore};
 ghost use Rattle.ms_complete.specs.Lines.{line_place};
 ghost use Rattle.ms_complete.specs.Sets.{Match};
 ghost use Rattle.ms_solver.specs.Numbered.{IsLitOf};
+ghost use Rattle.ms_solver.specs.Solves.{IsQuestion};
 
 use ms_base::memory::OutOfMemory;
 use ms_base::seq::Seq;
-use ms_join::assumption::AtomLit;
+use ms_complete::Complete;
+use ms_join::assumption::{AtomAsk, AtomLit};
 use ms_lits::{Lit, Lits};
+use ms_search::Ask;
 use std::alloc::Global;
 
+/// What a solve asks of the search, over all things.
+pub(crate) fn question_of(
+    alloc: Global,
+    completion: &Complete,
+    numbers: &[u32],
+    ask: &AtomAsk,
+) -> Result<Ask, OutOfMemory>
+    requires { All (λ given. given.atom < length numbers.now) ask.now.assume }
+    ensures { IfOk result (IsQuestion completion.now.things numbers.now ask.now) }
+{
+    let assume = literals(alloc, numbers, ask.assume.as_slice())?;
+    Ok(Ask {
+        vars: completion.things(),
+        count: ask.count,
+        limit: ask.limit,
+        assume,
+        impossible: ask.impossible,
+    })
+}
+
 /// The literals of assumptions over numbered atoms, in the order of a line, each once.
-pub(crate) fn literals(
+fn literals(
     alloc: Global,
     numbers: &[u32],
     assume: &[AtomLit],
