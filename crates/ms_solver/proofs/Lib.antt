@@ -5,3 +5,4 @@ pub mod Picked
 pub mod Listing
 pub mod Assignments
 pub mod Solved
+pub mod Asking
