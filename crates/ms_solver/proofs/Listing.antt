@@ -66,8 +66,8 @@ module _ (picked numbers set : List ℕ) (a d n : ℕ) (within : a < length numb
       elim (cases_Bool (test n)) [
         | inl passes ↦ absurd (differs (found_there passes))
         | inr fails ↦ record {
-            listed = ap (λ (k : ℕ). set ++ places test k later) (sym one)
-                ∙ (ap (λ (xs : List ℕ). set ++ xs) (sym (cond-false (test n) (a ∷ places test (suc a) later) (places test (suc a) later) fails)) ∙ listed_next);
-            rest = rest_next ∙ cond-false (test n) (n ∷ filter test later) (filter test later) fails;
-          }
+          listed = ap (λ (k : ℕ). set ++ places test k later) (sym one)
+              ∙ (ap (λ (xs : List ℕ). set ++ xs) (sym (cond-false (test n) (a ∷ places test (suc a) later) (places test (suc a) later) fails)) ∙ listed_next);
+          rest = rest_next ∙ cond-false (test n) (n ∷ filter test later) (filter test later) fails;
+        }
       ]

@@ -123,10 +123,10 @@ pub places_set : (test : ℕ → Bool) (numbers : List ℕ) → IsAtomSet (lengt
 places_set test numbers = record {
   rising = λ k within. places_rise test 0 numbers k (k + 1) 0 (omega arith) within;
   within = all_from (λ a. a < length numbers) (places test 0 numbers) (λ a has.
-    let p = place_from test 0 numbers a has in
-    let is : a ≡ 0 + p.place = p.is in
-    let low : p.place < length numbers = slice_get_within numbers p.place p.number p.at in
-    omega (arith, is, low));
+      let p = place_from test 0 numbers a has in
+      let is : a ≡ 0 + p.place = p.is in
+      let low : p.place < length numbers = slice_get_within numbers p.place p.number p.at in
+      omega (arith, is, low));
 }
 
 -- the set of the places at a place
@@ -176,17 +176,17 @@ places_back test from (n ∷ numbers) (a ∷ set) rise between agree =
     let above : (b : ℕ) → Contains set b → a < b = λ b has. subst (λ (c : ℕ). a < c) has.2 (rise 0 (suc has.0) b (omega arith) (omega (arith, has.1))) in
     elim (cases_eq a from) [
       | inl here ↦
-        cond-true (test n) (from ∷ rest) rest (agree from 0 n (omega arith) refl ∙ set_of_has (a ∷ set) from (0, omega arith, here))
-        ∙ (ap (λ (xs : List ℕ). from ∷ xs) (places_back test (suc from) numbers set (λ i j d less within. rise (suc i) (suc j) d (omega (arith, less)) (omega (arith, within)))
+          cond-true (test n) (from ∷ rest) rest (agree from 0 n (omega arith) refl ∙ set_of_has (a ∷ set) from (0, omega arith, here))
+          ∙ (ap (λ (xs : List ℕ). from ∷ xs) (places_back test (suc from) numbers set (λ i j d less within. rise (suc i) (suc j) d (omega (arith, less)) (omega (arith, within)))
           (λ b has. let more = above b has in let b' = between b (member_later a b set has) in let high : b < from + length (n ∷ numbers) = b'.1 in (omega (arith, more, here), omega (arith, high)))
           (λ p k m is at. agree p (suc k) m (omega (arith, is)) at ∙ set_behind a set p (λ same. omega (arith, same, is, here))))
           ∙ ap (λ (x : ℕ). x ∷ set) (sym here))
       | inr differ ↦
-        cond-false (test n) (from ∷ rest) rest (agree from 0 n (omega arith) refl ∙ set_of_lacks (a ∷ set) from (λ has. elim (member_cases a from set has) [
-          | inl same ↦ differ same
-          | inr later ↦ let more = above from later in absurd (omega (arith, more, low))
-        ]))
-        ∙ places_back test (suc from) numbers (a ∷ set) rise
+          cond-false (test n) (from ∷ rest) rest (agree from 0 n (omega arith) refl ∙ set_of_lacks (a ∷ set) from (λ has. elim (member_cases a from set has) [
+            | inl same ↦ differ same
+            | inr later ↦ let more = above from later in absurd (omega (arith, more, low))
+          ]))
+          ∙ places_back test (suc from) numbers (a ∷ set) rise
           (λ b has. let b' = between b has in let high : b < from + length (n ∷ numbers) = b'.1 in elim (member_cases a b set has) [
             | inl same ↦ (omega (arith, same, low, differ), omega (arith, high))
             | inr later ↦ let more = above b later in (omega (arith, more, low), omega (arith, high))

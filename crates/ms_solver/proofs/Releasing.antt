@@ -55,8 +55,8 @@ module _ (s : Knowledge) (j : Join) (serves : Serves s j) (a key : ℕ) (input :
         let back = (is.released.inputs i).0 (k, within, found) in
         let h = serves.sleepers b (any_from (λ (i : Input). i.atom ≡ b) j.inputs i back.0 same) in
         let differ : h.key ≡ key → ⊥ = λ alike.
-            let number : h.number ≡ own.number = same_number h.number own.number (sym h.asleep ∙ (ap (slot_at s.store) alike ∙ sleeps_there)) in
-            back.1 (same ∙ same_atom b a (sym h.thing ∙ (ap (slice_get s.numbering.things) number ∙ own.thing))) in
+        let number : h.number ≡ own.number = same_number h.number own.number (sym h.asleep ∙ (ap (slot_at s.store) alike ∙ sleeps_there)) in
+        back.1 (same ∙ same_atom b a (sym h.thing ∙ (ap (slice_get s.numbering.things) number ∙ own.thing))) in
         record { key = h.key; at = h.at; number = h.number; thing = h.thing; asleep = w.others h.key differ ∙ h.asleep }
 
     pub released_serves : Serves (record s { store = after }) released

@@ -219,7 +219,7 @@ module _ (k : Knowledge) (j : Join) (serves : Serves k j) (ask : AtomAsk) (quest
           let found = found_by j things k.atoms ask question.assume (last_of most_kept (kept_of k)) asks set asked_for converse possible kept_lasting in
           let truth : ℕ → Bool = ext (set_of set) things in
           let has : Contains run.answers (numbers_in things k.atoms set) = lists.all complete truth (admits_from truth found.admitted) found.none_kept
-              (record { possible = q.impossible ∙ possible; demanded = found.meets.demanded }) in
+          (record { possible = q.impossible ∙ possible; demanded = found.meets.demanded }) in
           subst (Contains (sets_of run)) (set_back set asked_for) (Contains-map (atoms_of k.atoms) (numbers_in things k.atoms set) run.answers has)
 
       once_told : AllPairs (λ set later. set ≢ later) (sets_of run)

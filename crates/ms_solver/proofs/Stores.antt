@@ -163,8 +163,10 @@ sleeps_more old mid new s key first asleep adds = record {
       | inl same ↦ absurd (none_is_some stored (sym (ap (slot_at mid) same ∙ adds.was_free) ∙ at))
       | inr differ ↦ adds.others k differ ∙ at
     ]
+
     fresh_still : (k : ℕ) → Contains mid.fresh k → Contains new.fresh k
     fresh_still k has = subst (λ (ks : List ℕ). Contains ks k) (sym adds.fresh) (Contains-append_left mid.fresh (key ∷ []) k has)
+
     kept_same : new.kept ≡ mid.kept
     kept_same = adds.kept ∙ ap (λ (kind : Option Kind). kept_after mid.kept kind key) asleep
 

@@ -37,11 +37,7 @@ pub(crate) fn question_of(
 }
 
 /// The literals of assumptions over numbered atoms, in the order of a line, each once.
-fn literals(
-    alloc: Global,
-    numbers: &[u32],
-    assume: &[AtomLit],
-) -> Result<Lits, OutOfMemory>
+fn literals(alloc: Global, numbers: &[u32], assume: &[AtomLit]) -> Result<Lits, OutOfMemory>
     requires { All (λ given. given.atom < length numbers.now) assume.now }
     ensures ordered { IfOk result (AllPairs ComesBefore) }
     ensures says { IfOk result (Match (IsLitOf numbers.now) assume.now) }
@@ -52,11 +48,7 @@ fn literals(
 }
 
 /// The literal of each assumption.
-fn each_literal(
-    alloc: Global,
-    numbers: &[u32],
-    assume: &[AtomLit],
-) -> Result<Vec<Lit>, OutOfMemory>
+fn each_literal(alloc: Global, numbers: &[u32], assume: &[AtomLit]) -> Result<Vec<Lit>, OutOfMemory>
     requires { All (λ given. given.atom < length numbers.now) assume.now }
     ensures { IfOk result (λ v. AllZip (IsLitOf numbers.now) assume.now v.items) }
 {

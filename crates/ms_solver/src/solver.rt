@@ -6,8 +6,8 @@ ghost use Rattle.ms_solver.specs.States.{CanRelease, Knowledge, Releases, Serves
 use ms_base::atom_id::AtomId;
 use ms_base::seq::Seq;
 use ms_complete::Complete;
-use ms_loops::inputs_keep_consequences;
 use ms_lits::Numbers;
+use ms_loops::inputs_keep_consequences;
 use ms_nogood::{Nogoods, Plain, Propagate};
 use ms_search::SearchBy;
 use ms_unfound::Unfounded;
