@@ -5,3 +5,8 @@ pub mod Releasing
 pub mod Lasting
 pub mod Sleeping
 pub mod Joining
+pub mod Picked
+pub mod Listing
+pub mod Assignments
+pub mod Solved
+pub mod Asking

@@ -1,5 +1,5 @@
 -- Atoms under the numbers of things, and the numbers of those that are in a set.
-use Rattle.std.specs.Prelude.{ℕ, suc, ◌≡◌, ◌≢◌, ◌<◌, ◌+◌, ◌*◌, Bool, if◌then◌else◌, List, [], ◌∷◌, Some, All, AllPairs, length, slice_get}
+use Rattle.std.specs.Prelude.{ℕ, suc, ◌≡◌, Bool, cond, List, [], ◌∷◌, Some, length, slice_get}
 use Rattle.std.specs.List.{filter}
 use Rattle.ms_lits.specs.declared.lit.Lit.{Lit}
 use Rattle.ms_join.specs.declared.assumption.AtomLit.{AtomLit}
@@ -18,14 +18,18 @@ pub record AreNumbers (things : List Thing) (count : ℕ) (numbers : List ℕ) :
 abbrev pub numbers_in : List Thing → List ℕ → List ℕ → List ℕ
 numbers_in things numbers set = filter (ext (set_of set) things) numbers
 
--- The list has those of the numbers that are in it, in their order.
-abbrev pub IsPickedFrom : List ℕ → List ℕ → Type 0
-IsPickedFrom numbers picked = picked ≡ filter (set_of picked) numbers
-
 -- the places of those numbers that pass, counted from this one on
 abbrev pub places : (ℕ → Bool) → ℕ → List ℕ → List ℕ
 places test from [] = []
-places test from (number ∷ numbers) = (if test number then from ∷ places test (suc from) numbers else places test (suc from) numbers)
+places test from (number ∷ numbers) = cond (test number) (from ∷ places test (suc from) numbers) (places test (suc from) numbers)
+
+-- the atoms whose numbers are in the list
+abbrev pub atoms_of : List ℕ → List ℕ → List ℕ
+atoms_of numbers picked = places (set_of picked) 0 numbers
+
+-- The list has those of the numbers that are in it, in their order.
+abbrev pub IsPickedFrom : List ℕ → List ℕ → Type 0
+IsPickedFrom numbers picked = picked ≡ filter (set_of picked) numbers
 
 -- what an assumption says of the thing that is its atom
 abbrev pub said : AtomLit → Signed

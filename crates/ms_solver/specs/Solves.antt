@@ -21,8 +21,8 @@ use Rattle.ms_lawful.specs.Parts.{ComesBefore, kept_after, last_of, most_kept}
 use Rattle.ms_complete.specs.Sets.{Match}
 use Rattle.ms_search.specs.declared.ask.Ask.{Ask}
 use Rattle.ms_search.specs.declared.ask.Run.{Run}
-use Rattle.ms_solver.specs.Numbered.{AreNumbers, numbers_in, said}
-use Rattle.ms_solver.specs.States.{State, Serves, kept_of}
+use Rattle.ms_solver.specs.Numbered.{IsLitOf, numbers_in, said}
+use Rattle.ms_solver.specs.States.{Knowledge, Serves, kept_of}
 
 -- The set is an answer set of the join where each input is free, and has what is assumed.
 abbrev pub IsAskedFor : Join → AtomAsk → List ℕ → Type 0
@@ -54,6 +54,16 @@ pub record IsListed (j : Join) (things : List Thing) (numbers : List ℕ) (ask :
   pub asked : IsAskedFor j ask set
   pub same : numbers_in things numbers set ≡ answer
 
+-- What a search is asked for on behalf of a solve: as many answers with the same limit, over all things, and the literals
+-- of what is assumed, in the order of a line.
+pub record IsQuestion (things : List Thing) (numbers : List ℕ) (ask : AtomAsk) (question : Ask) : Type 0 where
+  pub vars : question.vars ≡ length things
+  pub count : question.count ≡ ask.count
+  pub limit : question.limit ≡ ask.limit
+  pub ordered : AllPairs ComesBefore question.assume
+  pub says : Match (IsLitOf numbers) ask.assume question.assume
+  pub impossible : question.impossible ≡ ask.impossible
+
 -- What a solve is about: the completion and the loops of the join.
 abbrev pub problem_of : Join → List Thing → List ℕ → List Nogood → AtomAsk → List Lit → Problem
 problem_of j things numbers kept ask start = record {
@@ -79,15 +89,16 @@ pub record IsLog (j : Join) (things : List Thing) (numbers : List ℕ) (kept : L
   pub ends : EndsRun (problem_of j things numbers kept ask start) (stage_after first_stage lines) run.ending
   pub answers : answers_in lines ≡ map (numbers_in things numbers) run.answers
 
--- What a solve of the join lists, logs and keeps.
-pub record Solves (j : Join) (old : State) (ask : AtomAsk) (run : Run) (new : State) : Type 0 where
+-- What a solve of the join lists, logs and keeps. It serves the join still, under the same numbers.
+pub record Solves (j : Join) (old : Knowledge) (ask : AtomAsk) (run : Run) (new : Knowledge) : Type 0 where
   pub lists : Lists j ask run
   pub log : IsLog j old.numbering.things old.atoms (last_of most_kept (kept_of old)) ask run
   pub kept : kept_of new ≡ kept_after (kept_of old) run.notes
+  pub numbering : new.numbering ≡ old.numbering
   pub serves : Serves new j
 
 -- It serves a join over which the assumptions are.
-pub record CanSolve (s : State) (ask : AtomAsk) : Type 0 where
+pub record CanSolve (s : Knowledge) (ask : AtomAsk) : Type 0 where
   pub join : Join
   pub serves : Serves s join
   pub within : All (λ given. given.atom < join.atoms) ask.assume

@@ -1,8 +1,6 @@
 // Answers as sets of atoms.
-ghost use Rattle.std.specs.Prelude.{ℕ, ◌≡◌, ◌≢◌, ◌<◌, ◌^◌, All, AllPairs, IfOk, IsTrue, Some, length, slice_get, ◌↔◌};
-ghost use Rattle.std.specs.List.{AllZip};
-ghost use Rattle.ms_join.specs.Sets.{set_of};
-ghost use Rattle.ms_solver.specs.Numbered.{IsPickedFrom, places};
+ghost use Rattle.std.specs.Prelude.{◌≡◌, ◌<◌, ◌^◌, ◌↔◌, All, IfOk, IsTrue, Some, length, map, slice_get};
+ghost use Rattle.ms_solver.specs.Numbered.{IsPickedFrom, atoms_of};
 
 use ms_base::memory::OutOfMemory;
 use ms_base::seq::Seq;
@@ -19,12 +17,11 @@ fn is_at(list: &[u32], place: usize, number: u32) -> bool
     }
 }
 
-/// The places in `numbers` of those that are in `picked`, which has them in the same order.
-fn places_of(alloc: Global, numbers: &[u32], picked: &[u32]) -> Result<Numbers, OutOfMemory>
+/// The atoms whose numbers are in `picked`, which has them in the order of `numbers`.
+fn as_set(alloc: Global, numbers: &[u32], picked: &[u32]) -> Result<Numbers, OutOfMemory>
     requires fits { length numbers.now < 2 ^ 32 }
-    requires once { AllPairs (λ n k. n ≢ k) numbers.now }
     requires picked { IsPickedFrom numbers.now picked.now }
-    ensures { IfOk result (λ set. set ≡ places (set_of picked.now) 0 numbers.now) }
+    ensures { IfOk result (λ set. set ≡ atoms_of numbers.now picked.now) }
 {
     let mut set = Seq::new(alloc);
     for (a, number) in numbers.iter().enumerate() {
@@ -35,20 +32,19 @@ fn places_of(alloc: Global, numbers: &[u32], picked: &[u32]) -> Result<Numbers, 
     Ok(set)
 }
 
-/// The answers, each as the places of its numbers.
+/// The answers, each as the set of the atoms whose numbers are in it.
 pub(crate) fn as_sets(
     alloc: Global,
     numbers: &[u32],
     answers: &Answers,
 ) -> Result<Answers, OutOfMemory>
     requires fits { length numbers.now < 2 ^ 32 }
-    requires once { AllPairs (λ n k. n ≢ k) numbers.now }
     requires picked { All (IsPickedFrom numbers.now) answers.now }
-    ensures { IfOk result (λ sets. AllZip (λ answer set. set ≡ places (set_of answer) 0 numbers.now) answers.now sets) }
+    ensures { IfOk result (λ sets. sets ≡ map (atoms_of numbers.now) answers.now) }
 {
     let mut sets = Seq::new(alloc);
     for answer in answers.as_slice() {
-        let set = places_of(alloc, numbers, answer.as_slice())?;
+        let set = as_set(alloc, numbers, answer.as_slice())?;
         sets.push(set)?;
     }
     Ok(sets)
