@@ -7,6 +7,7 @@ pub mod Sleeping
 pub mod Joining
 pub mod Picked
 pub mod Listing
+pub mod Few
 pub mod Assignments
 pub mod Solved
 pub mod Asking

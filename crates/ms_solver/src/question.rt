@@ -1,5 +1,5 @@
 // What a solve demands, as literals.
-ghost use Rattle.std.specs.Prelude.{◌≡◌, ◌<◌, ◌↔◌, All, AllPairs, Contains, IfOk, length};
+ghost use Rattle.std.specs.Prelude.{◌≡◌, ◌<◌, ◌^◌, ◌↔◌, All, AllPairs, Contains, IfOk, length};
 ghost use Rattle.std.specs.List.{AllZip};
 ghost use Rattle.ms_lits.specs.declared.lit.Lit.{Lit};
 ghost use Rattle.ms_lawful.specs.Parts.{ComesBefore};
@@ -24,7 +24,8 @@ pub(crate) fn question_of(
     ask: &AtomAsk,
 ) -> Result<Ask, OutOfMemory>
     requires { All (λ given. given.atom < length numbers.now) ask.now.assume }
-    ensures { IfOk result (IsQuestion completion.now.things numbers.now ask.now) }
+    ensures question { IfOk result (IsQuestion completion.now.things numbers.now ask.now) }
+    ensures fits { IfOk result (λ _. length completion.now.things < 2 ^ 32) }
 {
     let assume = literals(alloc, numbers, ask.assume.as_slice())?;
     Ok(Ask {
