@@ -60,7 +60,9 @@ fn head_of(row: Row, heads: &[AtomId]) -> Option<(GroundKind, Option<AtomId>)>
 /// The positive and the negated atoms of a row.
 fn body_of(row: Row) -> (&'static [u32], &'static [u32]) {
     match row {
-        Row::Normal(_, pos, neg) | Row::Choice(_, pos, neg) | Row::Constraint(pos, neg) => (pos, neg),
+        Row::Normal(_, pos, neg) | Row::Choice(_, pos, neg) | Row::Constraint(pos, neg) => (
+            pos, neg,
+        ),
     }
 }
 

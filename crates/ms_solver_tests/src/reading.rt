@@ -33,23 +33,15 @@ pub(crate) fn found_text(alloc: Global, found: &Found) -> Result<String, OutOfMe
     sets_text(alloc, "complete ", &sets)
 }
 
-/// How many lines a run has of nogoods that it learned, and how many of these are kept.
-pub(crate) fn learned(run: &Run) -> (usize, usize)
-    ensures { result.1 ≤ result.0 }
-{
-    let mut lines = 0;
+/// How many nogoods a run learned that are kept.
+pub(crate) fn learned(run: &Run) -> usize {
     let mut kept = 0;
     for note in run.notes.as_slice() {
-        match note {
-            Note::Kept(_) => {
-                lines += 1;
-                kept += 1;
-            }
-            Note::Temporary(_) => lines += 1,
-            _ => (),
+        if let Note::Kept(_) = note {
+            kept += 1;
         }
     }
-    (lines, kept)
+    kept
 }
 
 fn number_of(answer: &[u32]) -> usize

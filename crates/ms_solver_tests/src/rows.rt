@@ -1,6 +1,6 @@
 // Scripts with what they come to.
 use Row::{Choice, Constraint, Normal};
-use Step::{Assign, Join, Release, Solve};
+use Step::{Assign, Join, Release, Solve, With};
 use ms_base::truth::Truth;
 
 /// A rule over the atoms a to f, which are numbered from 0: its head, and the positive and the negated atoms of its body.
@@ -33,6 +33,8 @@ pub(crate) enum Step {
     Release(u32),
     Assign(u32, Truth),
     Solve(Asked),
+    /// Solves for all answer sets that have what is assumed.
+    With(&'static [(u32, bool)]),
 }
 
 /// What is done, and what each solve says.
@@ -41,20 +43,6 @@ pub(crate) struct Script {
     pub(crate) message: &'static str,
     pub(crate) steps: &'static [Step],
     pub(crate) says: &'static str,
-}
-
-const ALL: Asked = Asked {
-    count: 1000,
-    limit: 1000,
-    assume: &[],
-};
-
-const fn with(assume: &'static [(u32, bool)]) -> Asked {
-    Asked {
-        count: 1000,
-        limit: 1000,
-        assume,
-    }
 }
 
 /// a :- b. b :- a. a :- c. {c}.
@@ -81,11 +69,15 @@ const CHOICES: Part = Part {
     ],
 };
 
-/// a :- not b. b :- a, not a.
+/// a :- not b. :- a. :- b.
 const NO_ANSWER: Part = Part {
     fresh: 2,
     heads: &[0, 1],
-    rules: &[Normal(0, &[], &[1]), Constraint(&[0], &[]), Constraint(&[1], &[])],
+    rules: &[
+        Normal(0, &[], &[1]),
+        Constraint(&[0], &[]),
+        Constraint(&[1], &[]),
+    ],
 };
 
 /// #external a. b :- a. {c} :- not a.
@@ -95,7 +87,7 @@ const INPUT: Part = Part {
     rules: &[Normal(1, &[0], &[]), Choice(2, &[], &[0])],
 };
 
-/// a :- d. over the input a.
+/// {d}. a :- d. The input a has a rule from now on.
 const LATER: Part = Part {
     fresh: 1,
     heads: &[0, 3],
@@ -122,46 +114,70 @@ const HOLES: Part = Part {
     ],
 };
 
+/// {a}. {b}. No set of both is left.
+const PAIR: Part = Part {
+    fresh: 2,
+    heads: &[0, 1],
+    rules: &[
+        Choice(0, &[], &[]),
+        Choice(1, &[], &[]),
+        Constraint(&[0, 1], &[]),
+        Constraint(&[0], &[1]),
+        Constraint(&[1], &[0]),
+        Constraint(&[], &[0, 1]),
+    ],
+};
+
 /// Scripts whose solves ask for all answer sets.
 pub(crate) const ANSWERS: &[Script] = &[
     Script {
         message: "no module: the empty set",
-        steps: &[Solve(ALL)],
+        steps: &[With(&[])],
         says: "complete {}; ",
     },
     Script {
         message: "a loop holds by what is outside of it",
-        steps: &[Join(LOOP), Solve(ALL), Solve(with(&[(2, false)])), Solve(with(&[(1, true)]))],
+        steps: &[
+            Join(LOOP),
+            With(&[]),
+            With(&[(2, false)]),
+            With(&[(1, true)]),
+        ],
         says: "complete {}{abc}; complete {}; complete {abc}; ",
     },
     Script {
         message: "choices, and twice the same question",
-        steps: &[Join(CHOICES), Solve(ALL), Solve(ALL), Solve(with(&[(1, true)]))],
+        steps: &[Join(CHOICES), With(&[]), With(&[]), With(&[(1, true)])],
         says: "complete {a}{c}{bc}; complete {a}{c}{bc}; complete {bc}; ",
     },
     Script {
         message: "assumptions that contradict",
-        steps: &[Join(CHOICES), Solve(with(&[(0, true), (0, false)])), Solve(with(&[(0, true), (1, true)])), Solve(ALL)],
+        steps: &[
+            Join(CHOICES),
+            With(&[(0, true), (0, false)]),
+            With(&[(0, true), (1, true)]),
+            With(&[]),
+        ],
         says: "complete ; complete ; complete {a}{c}{bc}; ",
     },
     Script {
         message: "no answer set",
-        steps: &[Join(NO_ANSWER), Solve(ALL), Solve(ALL)],
+        steps: &[Join(NO_ANSWER), With(&[]), With(&[])],
         says: "complete ; complete ; ",
     },
     Script {
         message: "an input has each value in turn",
         steps: &[
             Join(INPUT),
-            Solve(ALL),
+            With(&[]),
             Assign(0, Truth::True),
-            Solve(ALL),
+            With(&[]),
             Assign(0, Truth::Free),
-            Solve(ALL),
-            Solve(with(&[(0, true)])),
+            With(&[]),
+            With(&[(0, true)]),
             Assign(0, Truth::False),
-            Solve(ALL),
-            Solve(with(&[(0, true)])),
+            With(&[]),
+            With(&[(0, true)]),
         ],
         says: "complete {}{c}; complete {ab}; complete {}{ab}{c}; complete {ab}; complete {}{c}; complete ; ",
     },
@@ -170,13 +186,13 @@ pub(crate) const ANSWERS: &[Script] = &[
         steps: &[
             Join(INPUT),
             Assign(0, Truth::True),
-            Solve(ALL),
+            With(&[]),
             Release(0),
-            Solve(ALL),
+            With(&[]),
             Assign(0, Truth::True),
-            Solve(ALL),
+            With(&[]),
             Release(0),
-            Solve(ALL),
+            With(&[]),
         ],
         says: "complete {ab}; complete {}{c}; complete {}{c}; complete {}{c}; ",
     },
@@ -185,12 +201,12 @@ pub(crate) const ANSWERS: &[Script] = &[
         steps: &[
             Join(INPUT),
             Assign(0, Truth::Free),
-            Solve(ALL),
+            With(&[]),
             Join(LATER),
-            Solve(ALL),
-            Solve(with(&[(3, true)])),
+            With(&[]),
+            With(&[(3, true)]),
             Release(0),
-            Solve(ALL),
+            With(&[]),
         ],
         says: "complete {}{ab}{c}; complete {}{c}{abd}; complete {abd}; complete {}{c}{abd}; ",
     },
@@ -198,19 +214,24 @@ pub(crate) const ANSWERS: &[Script] = &[
         message: "a module after one that had answers",
         steps: &[
             Join(LOOP),
-            Solve(ALL),
+            With(&[]),
             Join(Part {
                 fresh: 2,
                 heads: &[3, 4],
-                rules: &[Normal(3, &[4], &[]), Normal(4, &[3], &[]), Normal(3, &[0], &[]), Constraint(&[], &[4])],
+                rules: &[
+                    Normal(3, &[4], &[]),
+                    Normal(4, &[3], &[]),
+                    Normal(3, &[0], &[]),
+                    Constraint(&[], &[4]),
+                ],
             }),
-            Solve(ALL),
+            With(&[]),
         ],
         says: "complete {}{abc}; complete {abcde}; ",
     },
     Script {
         message: "three in two holes",
-        steps: &[Join(HOLES), Solve(ALL), Solve(ALL)],
+        steps: &[Join(HOLES), With(&[]), With(&[])],
         says: "complete ; complete ; ",
     },
 ];
@@ -221,32 +242,72 @@ pub(crate) const LIMITED: &[Script] = &[
         message: "as many as are asked for",
         steps: &[
             Join(CHOICES),
-            Solve(Asked { count: 3, limit: 1000, assume: &[] }),
-            Solve(ALL),
+            Solve(Asked {
+                count: 3,
+                limit: 1000,
+                assume: &[],
+            }),
+            With(&[]),
         ],
         says: "open {a}{c}{bc}; complete {a}{c}{bc}; ",
     },
     Script {
-        message: "a limit of none: cut at the first conflict, and a later solve has its own limit",
+        message: "with a limit of none the first conflict cuts, and each solve has a limit of its own",
         steps: &[
             Join(HOLES),
-            Solve(Asked { count: 1000, limit: 0, assume: &[] }),
-            Solve(ALL),
+            Solve(Asked {
+                count: 1000,
+                limit: 0,
+                assume: &[],
+            }),
+            Solve(Asked {
+                count: 1000,
+                limit: 1,
+                assume: &[],
+            }),
         ],
         says: "cut ; complete ; ",
     },
+    Script {
+        message: "answers have nogoods of their own beside the limit",
+        steps: &[
+            Join(LOOP),
+            Solve(Asked {
+                count: 1000,
+                limit: 0,
+                assume: &[],
+            }),
+        ],
+        says: "complete {}{abc}; ",
+    },
 ];
 
-/// Scripts with, for each solve, the nogoods that it learned, those of them that last, and what is kept after it.
+/// Scripts with, for each solve, how many lasting nogoods it learned, and how many are kept after it.
 pub(crate) const LEARNED: &[Script] = &[
     Script {
         message: "what was learned is not learned again",
-        steps: &[Join(HOLES), Solve(ALL), Solve(ALL)],
-        says: "",
+        steps: &[Join(HOLES), With(&[]), With(&[])],
+        says: "1 1; 0 1; ",
     },
     Script {
-        message: "what only excludes answers is not kept",
-        steps: &[Join(CHOICES), Solve(ALL), Solve(ALL)],
-        says: "",
+        message: "nor after a later module, and after a release",
+        steps: &[
+            Join(PAIR),
+            With(&[]),
+            Join(Part {
+                fresh: 2,
+                heads: &[2],
+                rules: &[Choice(2, &[3], &[])],
+            }),
+            With(&[(2, true)]),
+            Release(3),
+            With(&[]),
+        ],
+        says: "1 1; 0 1; 0 1; ",
+    },
+    Script {
+        message: "what only leaves answers out is not kept",
+        steps: &[Join(CHOICES), With(&[]), With(&[])],
+        says: "0 0; 0 0; ",
     },
 ];
