@@ -36,6 +36,7 @@ impl<P: Propagate + Drop> SolverBy<P> {
             .search
             .run(&mut self.store, &mut self.loops, &question, &self.atoms)?;
         let answers = as_sets(self.alloc, self.atoms.as_slice(), &run.answers)?;
+        // The store says which keys its kept nogoods have.
         let _kept = self.store.trimmed(0);
         Ok(Run {
             ending: run.ending,
