@@ -1,8 +1,8 @@
 -- Assignments that contain no nogood of a join are its answer sets, under the numbers of things.
-use Rattle.std.proofs.Common.{◌≡◌, ◌≢◌, ◌∙◌, ◌<◌, ℕ, Bool, true, false, not, if◌then◌else◌, List, [], ◌∷◌, Option, Some, None, get_or, length, refl, sym, ap, subst, inl, inr, arith}
+use Rattle.std.proofs.Common.{◌≡◌, ◌∙◌, ◌<◌, ℕ, Bool, true, false, not, if◌then◌else◌, List, Some, get_or, length, refl, sym, ap, subst}
 use Rattle.std.specs.Prelude.{IsTrue, slice_get}
-use Rattle.std.specs.List.{All, AllPairs, Any, Contains, filter}
-use Rattle.std.proofs.lemmas.Bool.{cases_Bool, cases_eq, false≢true}
+use Rattle.std.specs.List.{All, Any, Contains, filter}
+use Rattle.std.proofs.lemmas.Bool.{false≢true}
 use Rattle.std.proofs.lemmas.Option.{slice_get-get_or, slice_get_within}
 use Rattle.std.proofs.lemmas.List.Elements.{All-contains, All-weaker}
 use Rattle.ms_lits.specs.declared.lit.Lit.{Lit}
@@ -11,7 +11,6 @@ use Rattle.ms_join.specs.declared.aggregate.GroundAgg.{GroundAgg}
 use Rattle.ms_join.specs.declared.aggregate.SignedAgg.{SignedAgg}
 use Rattle.ms_join.specs.declared.assumption.AtomAsk.{AtomAsk}
 use Rattle.ms_join.specs.declared.assumption.AtomLit.{AtomLit}
-use Rattle.ms_join.specs.declared.ground_rule.GroundRule.{GroundRule}
 use Rattle.ms_join.specs.AnswerSets.{IsRuleOver}
 use Rattle.ms_join.specs.Assumptions.{MeetsEach}
 use Rattle.ms_join.specs.Modules.{Join, IsJoin}
@@ -24,7 +23,7 @@ use Rattle.ms_things.specs.Signs.{IsContainedIn, IsFor}
 use Rattle.ms_loops.specs.Founded.{AgreesOnAtoms, ContainsNone, IsOverBase}
 use Rattle.ms_loops.specs.Laws.{AssignmentsArePossible, CompletionAndLoops, PossibleIsOverBase}
 use Rattle.ms_lawful.specs.Problems.{HasNogood, HasNoKept, IsAdmitted, MeetsStart, Problem, holds_under, true_atoms}
-use Rattle.ms_complete.proofs.Lists.{all_from, any_from, any_none, at_some, member_of, none_is_some, same_some, some_at, some_once}
+use Rattle.ms_complete.proofs.Lists.{any_none, at_some, member_of, some_at, some_once}
 use Rattle.ms_solver.specs.Numbered.{AreNumbers, atoms_of, numbers_in, places, said}
 use Rattle.ms_solver.specs.Admitted.{AdmittedAreAsked, AskedAreFound, AtomsDecide, Asks, IsFound}
 use Rattle.ms_solver.specs.Solves.{IsAskedFor, IsListed, problem_of}

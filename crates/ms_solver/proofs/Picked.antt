@@ -1,16 +1,15 @@
 -- Lists of numbers as sets of atoms, and back.
-use Rattle.std.proofs.Common.{◌≡◌, ◌∙◌, ◌⊎◌, ◌+◌, ◌<◌, ◌≤◌, ℕ, zero, suc, Bool, true, false, cond, nat_eq, List, [], ◌∷◌, ◌++◌, Some, None, length, refl, sym, ap, subst, inl, inr, arith}
+use Rattle.std.proofs.Common.{◌≡◌, ◌∙◌, ◌+◌, ◌<◌, ◌≤◌, ℕ, zero, suc, Bool, true, false, nat_eq, List, [], ◌∷◌, Some, length, refl, sym, ap, subst, inl, inr, arith}
 use Rattle.std.specs.Prelude.{slice_get}
-use Rattle.std.specs.List.{All, AllPairs, Any, Contains, filter, list_any}
-use Rattle.std.specs.List.Sorted.{IsStrictlyIncreasing}
+use Rattle.std.specs.List.{AllPairs, Any, Contains, filter}
 use Rattle.std.proofs.lemmas.Bool.{cases_Bool, cases_eq, cond-false, cond-true, eq-eqb, eqb-true, false_from_ne_true, false≢true}
 use Rattle.std.proofs.lemmas.Option.{slice_get_within}
-use Rattle.std.proofs.lemmas.List.Elements.{All-contains, All-contains_itself}
+use Rattle.std.proofs.lemmas.List.Elements.{All-contains}
 use Rattle.std.proofs.lemmas.List.Folds.{Any-from_list_any, list_any-from_Any}
 use Rattle.std.proofs.lemmas.List.Kept.{AllPairs-cons, AllPairs-from_increasing}
-use Rattle.ms_base.proofs.Lists.{Contains-filter, Contains-filtered, passes-filtered}
+use Rattle.ms_base.proofs.Lists.{Contains-filter, passes-filtered}
 use Rattle.ms_join.specs.Sets.{IsAtomSet, set_of}
-use Rattle.ms_complete.proofs.Lists.{all_from, any_from, at_some, member_cases, member_here, member_later, member_none, member_of, none_is_some, same_some, some_at}
+use Rattle.ms_complete.proofs.Lists.{all_from, any_from, member_cases, member_here, member_later, member_none, member_of, none_is_some, same_some}
 use Rattle.ms_solver.specs.Numbered.{IsPickedFrom, atoms_of, places}
 
 -- ---- truths

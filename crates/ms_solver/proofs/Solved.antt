@@ -1,7 +1,6 @@
 -- A run of the search over what a solver keeps of a join is a solve of the join.
-use Rattle.std.proofs.Common.{◌≡◌, ◌≢◌, ◌∙◌, ◌⊎◌, ◌<◌, ◌-◌, ℕ, Bool, true, false, List, [], ◌∷◌, ◌++◌, Option, Some, None, drop, get_or, map, length, option_map, refl, sym, ap, subst, inl, inr, arith}
-use Rattle.std.specs.Prelude.{slice_get}
-use Rattle.std.specs.List.{All, AllPairs, Any, Contains, filter, filter_map}
+use Rattle.std.proofs.Common.{◌≡◌, ◌≢◌, ◌∙◌, ◌<◌, ◌-◌, ℕ, Bool, true, false, List, [], ◌∷◌, Option, Some, None, get_or, map, length, option_map, refl, sym, ap, subst, inl, inr, arith}
+use Rattle.std.specs.List.{All, AllPairs, Any, Contains}
 use Rattle.std.proofs.lemmas.Option.{slice_get_within}
 use Rattle.std.proofs.lemmas.List.{get_or-map, length-map}
 use Rattle.std.proofs.lemmas.List.Elements.{All-append, All-contains, All-drop, All-map, All-tail, All-weaker}
@@ -14,20 +13,19 @@ use Rattle.ms_lits.specs.Literals.{Nogood}
 use Rattle.ms_nogood.specs.declared.kind.Kind.{Kind}
 use Rattle.ms_nogood.specs.declared.kind.Kind.TheVariants.{Base, Kept}
 use Rattle.ms_nogood.specs.Propagation.{IsWithin}
-use Rattle.ms_nogood.specs.Store.{AreKept, Store, Stored, awake_in, holds_kept, nogood_at, slot_at}
+use Rattle.ms_nogood.specs.Store.{AreKept, Store, Stored, awake_in, holds_kept, slot_at}
 use Rattle.ms_nogood.specs.Theories.{Agree}
 use Rattle.ms_join.specs.declared.assumption.AtomAsk.{AtomAsk}
 use Rattle.ms_join.specs.declared.assumption.AtomLit.{AtomLit}
-use Rattle.ms_join.specs.Modules.{Join, IsInput}
+use Rattle.ms_join.specs.Modules.{Join}
 use Rattle.ms_join.specs.Sets.{IsAtomSet, set_of}
 use Rattle.ms_join.specs.Things.{Thing}
 use Rattle.ms_join.specs.Things.Thing.{atom}
 use Rattle.ms_things.specs.Completion.{IsCompletionNogood, signs_of}
-use Rattle.ms_things.specs.Loops.{IsLoopNogood}
 use Rattle.ms_things.specs.Numbers.{ext, known_truth}
 use Rattle.ms_things.specs.Signs.{IsFor, Signed}
 use Rattle.ms_loops.specs.Laws.{AssignmentsArePossible, CompletionAndLoops, PossibleIsOverBase}
-use Rattle.ms_lawful.specs.Problems.{HasNogood, HasNoKept, IsAdmitted, MeetsStart, Problem, true_atoms}
+use Rattle.ms_lawful.specs.Problems.{HasNogood, IsAdmitted, Problem}
 use Rattle.ms_lawful.specs.Lines.{EndsFor, IsInOrder, Stage, answers_in, first_stage, kept_now, nogood_of, nogoods_in, stage_after}
 use Rattle.ms_lawful.specs.Parts.{kept_in, last_of, most_kept}
 use Rattle.ms_lawful.proofs.Carrying.{SaysAsMuch, ends_carry, lines_carry}
@@ -39,7 +37,7 @@ use Rattle.ms_lawful.proofs.Stages.{lines_after}
 use Rattle.ms_complete.specs.Bases.{HasExactly, base_of}
 use Rattle.ms_complete.specs.Rules.{holds}
 use Rattle.ms_complete.specs.Sets.{Match}
-use Rattle.ms_complete.proofs.Lists.{all_from, any_weaker, at_some, same_some}
+use Rattle.ms_complete.proofs.Lists.{all_from, any_weaker, at_some}
 use Rattle.ms_search.specs.declared.ask.Ask.{Ask}
 use Rattle.ms_search.specs.declared.ask.Run.{Run}
 use Rattle.ms_search.specs.Posed as search_lists

@@ -1,5 +1,5 @@
 -- What a solve says of a join.
-use Rattle.std.specs.Prelude.{ℕ, ◌≡◌, ◌≢◌, ◌<◌, ◌∷◌, [], Bool, true, false, List, All, AllPairs, Contains, length, map}
+use Rattle.std.specs.Prelude.{ℕ, ◌≡◌, ◌≢◌, ◌<◌, ◌∷◌, [], true, false, List, All, AllPairs, Contains, length, map}
 use Rattle.ms_lits.specs.declared.lit.Lit.{Lit}
 use Rattle.ms_lits.specs.declared.note.Note.{Note}
 use Rattle.ms_lits.specs.declared.note.Note.TheVariants.{Start}
@@ -7,7 +7,6 @@ use Rattle.ms_lits.specs.declared.note.Ending.{Ending}
 use Rattle.ms_lits.specs.declared.note.Ending.TheVariants.{Complete, StillOpen, Cut}
 use Rattle.ms_lits.specs.Literals.{Nogood}
 use Rattle.ms_join.specs.declared.assumption.AtomAsk.{AtomAsk}
-use Rattle.ms_join.specs.declared.ground_rule.Rules.{Rules}
 use Rattle.ms_join.specs.Assumptions.{IsMeetingAnswer}
 use Rattle.ms_join.specs.Modules.{Join}
 use Rattle.ms_join.specs.Possible.{freed}

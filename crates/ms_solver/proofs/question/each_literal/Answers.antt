@@ -1,6 +1,5 @@
-use Rattle.std.proofs.Common.{◌≡◌, ◌+◌, ◌<◌, ◌++◌, ◌∷◌, [], List, length, rules, subst, sym, take}
+use Rattle.std.proofs.Common.{◌+◌, ◌<◌, ◌++◌, ◌∷◌, [], List, length, rules, subst, sym, take}
 use Rattle.std.specs.List.{AllZip}
-use Rattle.std.proofs.lemmas.List.{take_more}
 use Rattle.ms_lits.specs.declared.lit.Lit.{Lit}
 use Rattle.ms_join.specs.declared.assumption.AtomLit.{AtomLit}
 use Rattle.ms_solver.specs.Numbered.{IsLitOf}

@@ -1,4 +1,4 @@
-use Rattle.std.proofs.Common.{List, rules, subst, sym}
+use Rattle.std.proofs.Common.{List, subst, sym}
 use Rattle.ms_lits.specs.declared.lit.Lit.{Lit}
 use Rattle.ms_complete.specs.Sets.{Match}
 use Rattle.ms_complete.proofs.LineLaws.{match_same}

@@ -1,9 +1,6 @@
-use Rattle.std.proofs.Common.{◌≡◌, ◌∙◌, ◌<◌, ◌≤◌, ◌^◌, ℕ, List, length, map, ap, subst, sym, arith}
+use Rattle.std.proofs.Common.{◌≡◌, ◌<◌, ◌≤◌, ◌^◌, ℕ, List, length, map, ap, subst, sym, arith}
 use Rattle.std.specs.List.{All}
-use Rattle.ms_nogood.specs.Store.{Store}
-use Rattle.ms_join.specs.declared.assumption.AtomLit.{AtomLit}
 use Rattle.ms_search.specs.declared.ask.Run.{Run}
-use Rattle.ms_search.specs.Runs.{AreAttached, empty_trail}
 use Rattle.ms_solver.specs.Numbered.{IsPickedFrom, atoms_of}
 use Rattle.ms_solver.specs.Solves.{CanSolve, IsQuestion, Solves}
 use Rattle.ms_solver.specs.States.{Knowledge, Serves, State}
