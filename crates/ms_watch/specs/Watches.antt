@@ -112,3 +112,10 @@ pub record AreInStep (w : Watching) (store : Store) (trail : Assignment) : Type 
 -- Each literal of the trail was looked at.
 abbrev pub HaveLooked : Watching → Assignment → Type 0
 HaveLooked w trail = w.seen ≡ length trail.entries
+
+-- There is room for the state of the key, and all else stays.
+pub record HasRoom (old new : Watching) (key : ℕ) : Type 0 where
+  pub links : new.links ≡ old.links
+  pub seen : new.seen ≡ old.seen
+  pub states : (other : ℕ) → state_in new.keys other ≡ state_in old.keys other
+  pub there : key < length new.keys

@@ -1,6 +1,6 @@
 // The numbers of the lists, and how a nogood is attached.
-ghost use Rattle.std.specs.Prelude.{◌≡◌};
-ghost use Rattle.ms_watch.specs.Watches.{list_of};
+ghost use Rattle.std.specs.Prelude.{◌≡◌, ◌<◌, All};
+ghost use Rattle.ms_watch.specs.Watches.{list_of, loose};
 
 use ms_lits::Lit;
 
@@ -20,6 +20,18 @@ pub(crate) fn list_of(lit: Lit) -> usize
 {
     let sign = if lit.truth { 1 } else { 0 };
     LITERALS + 2 * lit.var as usize + sign
+}
+
+/// So many lists that those of the literals are among them.
+pub(crate) fn lists_for(lits: &[Lit]) -> usize
+    ensures least { loose < result }
+    ensures all { All (λ lit. list_of lit < result) lits.now }
+{
+    let mut count = LITERALS;
+    for lit in lits {
+        count = count.max(list_of(*lit) + 1);
+    }
+    count
 }
 
 /// How the nogood of a key is attached.

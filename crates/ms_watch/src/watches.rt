@@ -1,5 +1,5 @@
 // Propagation by watches.
-ghost use Rattle.std.specs.Prelude.{ℕ, ◌≡◌, ◌≢◌, ◌<◌, ◌≤◌, ◌+◌, ◌^◌, ◌⊎◌, ◌++◌, ◌∷◌, [], Some, IfNone, IfSome, IsSome, IsTrue, MatchOption, is_some, option_map, slice_get, length, true, false};
+ghost use Rattle.std.specs.Prelude.{ℕ, ◌≡◌, ◌≢◌, ◌<◌, ◌≤◌, ◌+◌, ◌^◌, ◌⊎◌, ◌++◌, ◌∷◌, [], Some, IfNone, IfSome, IsSome, IsTrue, OnOk, MatchOption, is_some, option_map, slice_get, length, true, false};
 ghost use Rattle.ms_lits.specs.declared.lit.Lit.{Lit};
 ghost use Rattle.ms_lits.specs.Literals.{opposite_of};
 ghost use Rattle.ms_lits.specs.Assignment.{HoldsIn, IsAssignment, entry_made};
@@ -7,13 +7,13 @@ ghost use Rattle.ms_nogood.specs.Store.{nogood_at, slot_at};
 ghost use Rattle.ms_nogood.specs.Propagation.{IsWithin, Propagates, IsWholeAt};
 ghost use Rattle.ms_watch.specs.declared.lists.Watch.{Watch};
 ghost use Rattle.ms_watch.specs.Links.{HasFront, relinked, swapped};
-ghost use Rattle.ms_watch.specs.Watches.{AreInStep, HaveLooked, is_attached, state_in, list_of, pending, free, loose};
+ghost use Rattle.ms_watch.specs.Watches.{AreInStep, HasRoom, HaveLooked, is_attached, state_in, list_of, pending, free, loose};
 ghost use Rattle.ms_watch.specs.Steps.{assigned, changed, descended, grown};
 ghost use Rattle.ms_watch.specs.Walks.{IsWalking, IsOther, WatchesLit, AreFaced, IsPassing, IsFate, IsSettling, AreSettled, IsForcing, Places, pending_in};
 
 use crate::choice::{Choice, choose, is_false, is_true, replacement};
 use crate::lists::{Lists, Watch};
-use crate::state::{FREE, Fate, LITERALS, LOOSE, PENDING, State, list_of};
+use crate::state::{FREE, Fate, LOOSE, PENDING, State, list_of, lists_for};
 use ms_lits::{Lit, OutOfMemory, Trail};
 use ms_nogood::{Nogoods, Propagate, Scan};
 use std::alloc::Global;
@@ -65,14 +65,8 @@ impl Propagate for Watches {
     }
 
     fn attach(&mut self, store: &Nogoods, _trail: &Trail, key: usize) -> Result<(), OutOfMemory> {
-        if key >= self.keys.len() {
-            let count = key.checked_add(1).ok_or(OutOfMemory)?;
-            self.keys.resize(count, State::Detached)?;
-        }
-        self.lists.grow(LITERALS)?;
-        for lit in store.get(key) {
-            self.lists.grow(list_of(*lit) + 1)?;
-        }
+        self.make_room(key)?;
+        self.lists.grow(lists_for(store.get(key)))?;
         let watch = Watch {
             key,
             blocker: Lit::default(),
@@ -107,6 +101,17 @@ impl Propagate for Watches {
 }
 
 impl Watches {
+    /// Makes room for the state of a key.
+    fn make_room(&mut self, key: usize) -> Result<(), OutOfMemory>
+        ensures { OnOk result (HasRoom self.old self.new key) }
+    {
+        if key >= self.keys.len() {
+            let count = key.checked_add(1).ok_or(OutOfMemory)?;
+            self.keys.resize(count, State::Detached)?;
+        }
+        Ok(())
+    }
+
     fn state(&self, key: usize) -> State
         ensures { result ≡ state_in self.now.keys key }
     {
