@@ -72,7 +72,7 @@ kept_attached lists new count many keys new_keys seen store trail key lits kept 
       looked = kept.looked;
       late = kept.late;
       stored = λ k attached. elim (cases_eq k key) [
-        | inl at ↦ subst (λ (n : ℕ). IsSome (lits_at store n)) (sym at) (subst IsSome (sym found) tt)
+        | inl at ↦ subst (λ (n : ℕ). IsSome (lits_at store n)) (sym at) (subst IsSome (sym found) refl)
         | inr other ↦ kept.stored k (sym (ap is_attached (others k other)) ∙ attached)
       ];
       covered = λ k ls attached is. elim (cases_eq k key) [

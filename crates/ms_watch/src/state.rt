@@ -1,5 +1,5 @@
 // The numbers of the lists, and how a nogood is attached.
-ghost use Rattle.std.specs.Prelude.{◌≡◌, ◌<◌, All};
+ghost use Rattle.std.specs.Prelude.{◌≡◌, ◌<◌, ◌^◌, All};
 ghost use Rattle.ms_watch.specs.Watches.{list_of, loose};
 
 use ms_lits::Lit;
@@ -16,7 +16,8 @@ pub(crate) const LITERALS: usize = 3;
 
 /// The list of the nogoods that watch a literal.
 pub(crate) fn list_of(lit: Lit) -> usize
-    ensures { result ≡ list_of lit }
+    ensures list { result ≡ list_of lit }
+    ensures small { result < 2 ^ 34 }
 {
     let sign = if lit.truth { 1 } else { 0 };
     LITERALS + 2 * lit.var as usize + sign

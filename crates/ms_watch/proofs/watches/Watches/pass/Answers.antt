@@ -40,7 +40,7 @@ returns-in-Stays-clause-passing c =
     let view : v ≡ w = c.self.view_is in
     let new : Watching = record { links = c.relink.new.self; keys = c.self.inside.keys.items; seen = c.self.inside.seen } in
     let x : Watch = record { key = c.args.watch.key; blocker = c.in-Stays.blocker } in
-    let links : new.links ≡ relinked w.links pending (list_of c.args.lit) x = relinked_seen c.relink.new.self v w c.list_of.result (list_of c.args.lit) x view c.relink.ensures c.list_of.ensures in
+    let links : new.links ≡ relinked w.links pending (list_of c.args.lit) x = relinked_seen c.relink.new.self v w c.list_of.result (list_of c.args.lit) x view c.relink.ensures c.list_of.ensures.list in
     let keys : new.keys ≡ w.keys = ap (λ (u : Watching). u.keys) view in
     let seen : new.seen ≡ w.seen = ap (λ (u : Watching). u.seen) view in
     let both = passing_stays c.args.lit w c.args.store.now c.args.trail.now c.args.watch c.requires.passing c.requires.front new x links keys seen c.requires.there refl c.in-Stays.ensures.0 c.in-Stays.ensures.1 in
@@ -53,7 +53,7 @@ returns-in-Stays-clause-fewer c is =
     let view : v ≡ w = c.self.view_is in
     let new : Watching = record { links = c.relink.new.self; keys = c.self.inside.keys.items; seen = c.self.inside.seen } in
     let x : Watch = record { key = c.args.watch.key; blocker = c.in-Stays.blocker } in
-    let links : new.links ≡ relinked w.links pending (list_of c.args.lit) x = relinked_seen c.relink.new.self v w c.list_of.result (list_of c.args.lit) x view c.relink.ensures c.list_of.ensures in
+    let links : new.links ≡ relinked w.links pending (list_of c.args.lit) x = relinked_seen c.relink.new.self v w c.list_of.result (list_of c.args.lit) x view c.relink.ensures c.list_of.ensures.list in
     let keys : new.keys ≡ w.keys = ap (λ (u : Watching). u.keys) view in
     let seen : new.seen ≡ w.seen = ap (λ (u : Watching). u.seen) view in
     let both = passing_stays c.args.lit w c.args.store.now c.args.trail.now c.args.watch c.requires.passing c.requires.front new x links keys seen c.requires.there refl c.in-Stays.ensures.0 c.in-Stays.ensures.1 in
@@ -91,7 +91,7 @@ returns-in-Moves-clause-passing c =
     let state : State = Watched c.in-Moves.next c.in-Moves.other in
     let new : Watching = record { links = c.relink-in-Moves.new.self; keys = (with_item c.self.inside.keys c.args.watch.key state).items; seen = c.self.inside.seen } in
     let x : Watch = record { key = c.args.watch.key; blocker = c.in-Moves.other } in
-    let links : new.links ≡ relinked w.links pending (list_of c.in-Moves.next) x = relinked_seen c.relink-in-Moves.new.self v w c.list_of-in-Moves.result (list_of c.in-Moves.next) x view c.relink-in-Moves.ensures c.list_of-in-Moves.ensures in
+    let links : new.links ≡ relinked w.links pending (list_of c.in-Moves.next) x = relinked_seen c.relink-in-Moves.new.self v w c.list_of-in-Moves.result (list_of c.in-Moves.next) x view c.relink-in-Moves.ensures c.list_of-in-Moves.ensures.list in
     let keys : c.self.inside.keys.items ≡ w.keys = ap (λ (u : Watching). u.keys) view in
     let seen : new.seen ≡ w.seen = ap (λ (u : Watching). u.seen) view in
     let both = passing_moves c.args.lit w c.args.store.now c.args.trail.now c.args.watch c.requires.passing c.requires.front new x c.in-Moves.next c.in-Moves.other links
@@ -108,7 +108,7 @@ returns-in-Moves-clause-fewer c is =
     let state : State = Watched c.in-Moves.next c.in-Moves.other in
     let new : Watching = record { links = c.relink-in-Moves.new.self; keys = (with_item c.self.inside.keys c.args.watch.key state).items; seen = c.self.inside.seen } in
     let x : Watch = record { key = c.args.watch.key; blocker = c.in-Moves.other } in
-    let links : new.links ≡ relinked w.links pending (list_of c.in-Moves.next) x = relinked_seen c.relink-in-Moves.new.self v w c.list_of-in-Moves.result (list_of c.in-Moves.next) x view c.relink-in-Moves.ensures c.list_of-in-Moves.ensures in
+    let links : new.links ≡ relinked w.links pending (list_of c.in-Moves.next) x = relinked_seen c.relink-in-Moves.new.self v w c.list_of-in-Moves.result (list_of c.in-Moves.next) x view c.relink-in-Moves.ensures c.list_of-in-Moves.ensures.list in
     let keys : c.self.inside.keys.items ≡ w.keys = ap (λ (u : Watching). u.keys) view in
     let seen : new.seen ≡ w.seen = ap (λ (u : Watching). u.seen) view in
     let both = passing_moves c.args.lit w c.args.store.now c.args.trail.now c.args.watch c.requires.passing c.requires.front new x c.in-Moves.next c.in-Moves.other links
@@ -177,7 +177,7 @@ returns-in-Forces-clause-passing c =
     let false_now : HoldsIn trail.entries (opposite_of other) = assigned_holds c.args.trail.now trail c.opposite.result (opposite_of other) (Some c.args.watch.key) c.opposite.ensures c.in-Forces.ensures.2 made in
     let new : Watching = record { links = c.relink-in-Forces.new.self; keys = c.self.inside.keys.items; seen = c.self.inside.seen } in
     let x : Watch = record { key = c.args.watch.key; blocker = other } in
-    let links : new.links ≡ relinked w.links pending (list_of c.args.lit) x = relinked_seen c.relink-in-Forces.new.self v w c.list_of-in-Forces.result (list_of c.args.lit) x view c.relink-in-Forces.ensures c.list_of-in-Forces.ensures in
+    let links : new.links ≡ relinked w.links pending (list_of c.args.lit) x = relinked_seen c.relink-in-Forces.new.self v w c.list_of-in-Forces.result (list_of c.args.lit) x view c.relink-in-Forces.ensures c.list_of-in-Forces.ensures.list in
     let keys : new.keys ≡ w.keys = ap (λ (u : Watching). u.keys) view in
     let seen : new.seen ≡ w.seen = ap (λ (u : Watching). u.seen) view in
     let both = passing_stays c.args.lit w c.args.store.now trail c.args.watch p c.requires.front new x links keys seen c.requires.there refl false_now (inr c.in-Forces.ensures.0) in
@@ -195,7 +195,7 @@ returns-in-Forces-clause-fewer c is =
     let false_now : HoldsIn trail.entries (opposite_of other) = assigned_holds c.args.trail.now trail c.opposite.result (opposite_of other) (Some c.args.watch.key) c.opposite.ensures c.in-Forces.ensures.2 made in
     let new : Watching = record { links = c.relink-in-Forces.new.self; keys = c.self.inside.keys.items; seen = c.self.inside.seen } in
     let x : Watch = record { key = c.args.watch.key; blocker = other } in
-    let links : new.links ≡ relinked w.links pending (list_of c.args.lit) x = relinked_seen c.relink-in-Forces.new.self v w c.list_of-in-Forces.result (list_of c.args.lit) x view c.relink-in-Forces.ensures c.list_of-in-Forces.ensures in
+    let links : new.links ≡ relinked w.links pending (list_of c.args.lit) x = relinked_seen c.relink-in-Forces.new.self v w c.list_of-in-Forces.result (list_of c.args.lit) x view c.relink-in-Forces.ensures c.list_of-in-Forces.ensures.list in
     let keys : new.keys ≡ w.keys = ap (λ (u : Watching). u.keys) view in
     let seen : new.seen ≡ w.seen = ap (λ (u : Watching). u.seen) view in
     let both = passing_stays c.args.lit w c.args.store.now trail c.args.watch p c.requires.front new x links keys seen c.requires.there refl false_now (inr c.in-Forces.ensures.0) in

@@ -15,7 +15,7 @@ pub loop-watch-init : goal.loop-watch-init
 loop-watch-init c =
     let w : Watching = c.args.self.now in
     let new : Watching = c.begin.new.self in
-    let list : c.list_of-list.result ≡ list_of c.args.lit = c.list_of-list.ensures in
+    let list : c.list_of-list.result ≡ list_of c.args.lit = c.list_of-list.ensures.list in
     let links : new.links ≡ swapped w.links (list_of c.args.lit) pending = ap (λ (u : Watching). u.links) c.begin.ensures ∙ ap (λ n. swapped w.links n pending) list in
     let keys : new.keys ≡ w.keys = ap (λ (u : Watching). u.keys) c.begin.ensures in
     let seen : new.seen ≡ w.seen = ap (λ (u : Watching). u.seen) c.begin.ensures in
