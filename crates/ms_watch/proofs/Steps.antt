@@ -104,14 +104,14 @@ step_attached w room links new store trail key count lits watch has grown least 
     let others : (other : ℕ) → (other ≡ key → ⊥) → state_in keys other ≡ state_in w.keys other = λ other apart. get_or-set_other room.keys key other Loose Detached apart ∙ has.states other in
     let have : HaveLists (added (added links free watch) loose watch) two = have_added (added links free watch) one loose watch (have_added links step.lists free watch (have_grown room.links links count step.lists grown (subst (λ (l : Links). HaveLists l step.lists) (sym has.links) step.have)) (omega (arith, grown.enough))) (omega arith) in
     let kept : AreKept two many keys room.seen store trail = subst (λ (n : ℕ). AreKept two many keys n store trail) (sym has.seen)
-        (kept_attached step.lists two (length w.links.heads) many w.keys keys w.seen store trail key lits step.kept more
-        (λ k d lt. (let low = all k d lt in omega arith)) found state others
-        (λ list le. elim (cases_eq list loose) [
-          | inl at ↦ inr (watch, put_here one loose (watch ∷ one loose) list at ∙ ap (λ (ws : List Watch). watch ∷ ws) (put_other step.lists free (watch ∷ step.lists free) loose (λ e. absurd (omega arith)) ∙ ap step.lists (sym at)))
-          | inr other ↦ inl (put_other one loose (watch ∷ one loose) list other ∙ put_other step.lists free (watch ∷ step.lists free) list (λ e. absurd (omega arith)))
-        ])
-        (λ list le. put_other one loose (watch ∷ one loose) list (λ e. absurd (omega arith)) ∙ put_other step.lists free (watch ∷ step.lists free) list (λ e. absurd (omega arith)))
-        (has_key (two loose) key watch (subst (λ (ws : List Watch). Contains ws watch) (sym (put_here one loose (watch ∷ one loose) loose refl)) (Contains-first watch (one loose))) same)) in
+    (kept_attached step.lists two (length w.links.heads) many w.keys keys w.seen store trail key lits step.kept more
+    (λ k d lt. (let low = all k d lt in omega arith)) found state others
+    (λ list le. elim (cases_eq list loose) [
+      | inl at ↦ inr (watch, put_here one loose (watch ∷ one loose) list at ∙ ap (λ (ws : List Watch). watch ∷ ws) (put_other step.lists free (watch ∷ step.lists free) loose (λ e. absurd (omega arith)) ∙ ap step.lists (sym at)))
+      | inr other ↦ inl (put_other one loose (watch ∷ one loose) list other ∙ put_other step.lists free (watch ∷ step.lists free) list (λ e. absurd (omega arith)))
+    ])
+    (λ list le. put_other one loose (watch ∷ one loose) list (λ e. absurd (omega arith)) ∙ put_other step.lists free (watch ∷ step.lists free) list (λ e. absurd (omega arith)))
+    (has_key (two loose) key watch (subst (λ (ws : List Watch). Contains ws watch) (sym (put_here one loose (watch ∷ one loose) loose refl)) (Contains-first watch (one loose))) same)) in
     let made : AreInStep (record { links = added (added links free watch) loose watch; keys = keys; seen = room.seen }) store trail = record {
       lists = two;
       have = have;

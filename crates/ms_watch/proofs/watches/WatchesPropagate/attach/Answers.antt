@@ -17,7 +17,7 @@ returns-clause-in_step c step can =
     let links : c.add-2.new.self ≡ added (added grown free watch) loose watch = c.in_ok-add-2.ensures ∙ ap (λ (l : Links). added l loose watch) c.in_ok-add.ensures in
     let new : Watching = record { links = c.add-2.new.self; keys = set c.self.inside.keys.items c.args.key Loose; seen = c.self.inside.seen } in
     let is : new ≡ record { links = added (added grown free watch) loose watch; keys = set room.keys c.args.key Loose; seen = room.seen } =
-        ap (λ (l : Links). record { links = l; keys = set c.self.inside.keys.items c.args.key Loose; seen = c.self.inside.seen }) links
-        ∙ ap (λ (u : Watching). record { links = added (added grown free watch) loose watch; keys = set u.keys c.args.key Loose; seen = u.seen }) view in
+    ap (λ (l : Links). record { links = l; keys = set c.self.inside.keys.items c.args.key Loose; seen = c.self.inside.seen }) links
+    ∙ ap (λ (u : Watching). record { links = added (added grown free watch) loose watch; keys = set u.keys c.args.key Loose; seen = u.seen }) view in
     step_attached c.args.self.now room grown new c.args.store.now c.args._trail.now c.args.key c.lists_for.result c.get.result.now watch
     c.in_ok-make_room.ensures (subst (λ (u : Watching). IsGrown u.links grown c.lists_for.result) view c.in_ok-grow.ensures) c.lists_for.ensures.least c.lists_for.ensures.all c.get.ensures c.requires.free refl is step
