@@ -4,7 +4,7 @@ use Rattle.std.specs.Prelude.{IfSome, IsSomeAnd}
 use Rattle.std.specs.List.{All, Contains}
 use Rattle.std.proofs.lemmas.Bool.{cases_lt}
 use Rattle.std.proofs.lemmas.List.Elements.{All-contains, All-nil, All-push, All-weaker, Contains-append_left, Contains-push}
-use Rattle.ms_answers.proofs.Rising.{IsStrictlyIncreasing-push}
+use Rattle.ms_graph.proofs.Lists.{rising_push}
 use Rattle.ms_join.specs.declared.ground_module.GroundModule.{GroundModule}
 use Rattle.ms_join.specs.declared.ground_rule.GroundKind.{GroundKind}
 use Rattle.ms_join.specs.declared.ground_rule.GroundKind.TheVariants.{Normal, Choice, Constraint}
@@ -29,7 +29,7 @@ pub one_more : (count least a next : ℕ) (atoms : List ℕ) → IsSetBelow coun
 one_more count least a next atoms is late within less =
     let before : All (λ (b : ℕ). b < a) atoms = All-weaker (λ (b : ℕ). b < least) (λ (b : ℕ). b < a) (λ b low. omega (arith, low, late)) atoms is.below in
     record {
-      set = record { rising = IsStrictlyIncreasing-push atoms a is.set.rising before; within = All-push (λ (b : ℕ). b < count) atoms a is.set.within within };
+      set = record { rising = rising_push atoms a is.set.rising (λ x has. All-contains (λ (b : ℕ). b < a) atoms x before has); within = All-push (λ (b : ℕ). b < count) atoms a is.set.within within };
       below = All-push (λ (b : ℕ). b < next) atoms a (All-weaker (λ (b : ℕ). b < a) (λ (b : ℕ). b < next) (λ b low. omega (arith, low, less)) atoms before) less;
     }
 

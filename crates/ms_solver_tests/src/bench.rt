@@ -3,9 +3,8 @@ ghost use Rattle.std.specs.Prelude.{ℕ, ◌≡◌, ◌+◌, ◌<◌, ◌≤◌,
 ghost use Rattle.ms_join.specs.Modules.{IsWellFormed, Join};
 ghost use Rattle.ms_solver_tests.specs.Benches.{IsBench};
 
-use crate::module::module_of;
+use crate::module::{module_of, set_of};
 use crate::rows::{Asked, Part};
-use ms_answers::{Found, answer_sets};
 use ms_atombase::AtomBase;
 use ms_base::atom_id::AtomId;
 use ms_base::seq::Seq;
@@ -13,6 +12,7 @@ use ms_base::truth::{Effect, Truth};
 use ms_join::assumption::{AtomAsk, AtomLit};
 use ms_join::ground_module::GroundModule;
 use ms_module::Join;
+use ms_rules::{Scratch, is_answer};
 use ms_solver::{OutOfMemory, Run, Solver, assigned_is_served};
 use ms_term::{TermId, Terms};
 use std::alloc::Global;
@@ -73,6 +73,16 @@ fn add_names(names: &[TermId], base: &mut AtomBase) -> Result<(), OutOfMemory>
         base.intern(*name)?;
     }
     Ok(())
+}
+
+/// Whether a set has what is assumed.
+fn meets(set: &[AtomId], assume: &[(u32, bool)]) -> bool {
+    for (number, truth) in assume {
+        if set.contains(&AtomId(*number)) != *truth {
+            return false;
+        }
+    }
+    true
 }
 
 impl Bench {
@@ -152,16 +162,16 @@ impl Bench {
         Ok((self, run))
     }
 
-    /// What trying every set of atoms finds.
-    pub(crate) fn tried(&self, asked: &Asked) -> Result<Found, OutOfMemory> {
-        let lits = self.demanded(asked.assume)?;
-        answer_sets(
-            self.alloc,
-            self.base.len(),
-            self.join.rules(),
-            lits.as_slice(),
-            1000,
-        )
+    /// Whether a set of atoms of the base is an answer set that has what is assumed.
+    pub(crate) fn is_answer(&self, asked: &Asked, numbers: &[u32]) -> Result<bool, OutOfMemory> {
+        let set = set_of(self.alloc, numbers, self.base.len())?;
+        let mut scratch = Scratch::new(self.alloc, self.base.len())?;
+        Ok(meets(set.as_slice(), asked.assume) && is_answer(self.join.rules(), &set, &mut scratch))
+    }
+
+    /// The number of atoms.
+    pub(crate) fn atoms(&self) -> u32 {
+        self.base.len()
     }
 
     /// The values of the inputs that aren't free, and the assumptions on atoms of the base.

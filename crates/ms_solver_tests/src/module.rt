@@ -14,7 +14,7 @@ use ms_term::TermId;
 use std::alloc::Global;
 
 /// Those of the atoms that are below a number and above all before them.
-fn set_of(alloc: Global, numbers: &[u32], count: u32) -> Result<AtomIds, OutOfMemory>
+pub(crate) fn set_of(alloc: Global, numbers: &[u32], count: u32) -> Result<AtomIds, OutOfMemory>
     ensures { IfOk result (IsAtomSet count) }
 {
     let mut atoms = Seq::new(alloc);

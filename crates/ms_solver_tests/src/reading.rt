@@ -1,8 +1,8 @@
 // Answers as text.
 ghost use Rattle.std.specs.Prelude.{◌<◌, ◌≤◌};
 
-use ms_answers::Found;
-use ms_base::atom_id::AtomId;
+use crate::bench::Bench;
+use crate::rows::Asked;
 use ms_lits::{Ending, Note};
 use ms_solver::{OutOfMemory, Run};
 use std::alloc::Global;
@@ -24,13 +24,41 @@ pub(crate) fn run_text(alloc: Global, run: &Run) -> Result<String, OutOfMemory> 
     sets_text(alloc, ending, &sets)
 }
 
-/// The sets that trying every set found.
-pub(crate) fn found_text(alloc: Global, found: &Found) -> Result<String, OutOfMemory> {
-    let mut sets = [false; 64];
-    for set in found.sets.as_slice() {
-        sets[number_of_set(set.as_slice())] = true;
+/// What trying every set of atoms finds.
+pub(crate) fn tried_text(
+    alloc: Global,
+    bench: &Bench,
+    asked: &Asked,
+) -> Result<String, OutOfMemory> {
+    let mut text = String::new(alloc);
+    text.push_str("complete ")?;
+    for number in 0..64 {
+        let set = atoms_of(alloc, number)?;
+        if is_below(set.as_slice(), bench.atoms()) && bench.is_answer(asked, set.as_slice())? {
+            push_set(&mut text, number)?;
+        }
     }
-    sets_text(alloc, "complete ", &sets)
+    Ok(text)
+}
+
+/// The atoms of the set with a number.
+fn atoms_of(alloc: Global, number: usize) -> Result<Vec<u32>, OutOfMemory> {
+    let mut atoms = Vec::new(alloc);
+    for (bit, atom) in [(1, 0), (2, 1), (4, 2), (8, 3), (16, 4), (32, 5)] {
+        if number / bit % 2 == 1 {
+            atoms.push(atom)?;
+        }
+    }
+    Ok(atoms)
+}
+
+fn is_below(atoms: &[u32], count: u32) -> bool {
+    for atom in atoms {
+        if *atom >= count {
+            return false;
+        }
+    }
+    true
 }
 
 /// How many nogoods a run learned that are kept.
@@ -53,17 +81,6 @@ fn number_of(answer: &[u32]) -> usize
         + weight(answer.contains(&3), 8)
         + weight(answer.contains(&4), 16)
         + weight(answer.contains(&5), 32)
-}
-
-fn number_of_set(set: &[AtomId]) -> usize
-    ensures { result < 64 }
-{
-    weight(set.contains(&AtomId(0)), 1)
-        + weight(set.contains(&AtomId(1)), 2)
-        + weight(set.contains(&AtomId(2)), 4)
-        + weight(set.contains(&AtomId(3)), 8)
-        + weight(set.contains(&AtomId(4)), 16)
-        + weight(set.contains(&AtomId(5)), 32)
 }
 
 fn weight(has: bool, weight: usize) -> usize

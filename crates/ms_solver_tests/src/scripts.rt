@@ -1,5 +1,5 @@
 use crate::bench::Bench;
-use crate::reading::{found_text, learned, run_text};
+use crate::reading::{learned, run_text, tried_text};
 use crate::rows::{ANSWERS, Asked, LEARNED, LIMITED, Step};
 use ms_solver::OutOfMemory;
 use std::alloc::Global;
@@ -38,10 +38,10 @@ fn told(alloc: Global, steps: &[Step]) -> Result<(String, String), OutOfMemory> 
             bench = after(bench, step)?;
             continue;
         };
-        let tried = bench.tried(&asked)?;
+        let tried = tried_text(alloc, &bench, &asked)?;
         let (solved, run) = bench.solve(&asked)?;
         bench = solved;
-        by_trying.push_str(found_text(alloc, &tried)?.as_str())?;
+        by_trying.push_str(tried.as_str())?;
         by_trying.push_str("; ")?;
         by_solver.push_str(run_text(alloc, &run)?.as_str())?;
         by_solver.push_str("; ")?;
