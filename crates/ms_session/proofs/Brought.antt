@@ -1,6 +1,5 @@
 -- What a module brings are exactly the things that its join has beyond the old ones.
-use Rattle.std.proofs.Common.{◌≡◌, ◌∙◌, ◌⊎◌, ◌+◌, ◌<◌, ◌≤◌, ◌++◌, ℕ, List, Option, Some, None, length, map, refl, sym, ap, subst, inl, inr, arith}
-use Rattle.std.specs.Prelude.{IsSomeAnd, slice_get}
+use Rattle.std.proofs.Common.{◌≡◌, ◌∙◌, ◌+◌, ◌<◌, ◌++◌, ℕ, List, Option, Some, None, refl, sym, ap, subst, inl, inr, arith}
 use Rattle.std.specs.List.{All, Any, Contains}
 use Rattle.std.proofs.lemmas.Bool.{cases_lt}
 use Rattle.std.proofs.lemmas.List.Elements.{All-contains, Contains-append_cases, Contains-append_left}
@@ -8,7 +7,7 @@ use Rattle.ms_join.specs.declared.ground_rule.GroundRule.{GroundRule}
 use Rattle.ms_join.specs.declared.ground_module.GroundModule.{GroundModule}
 use Rattle.ms_join.specs.AnswerSets.{IsRuleOver}
 use Rattle.ms_join.specs.Modules.{Join, IsJoined, IsWellFormed}
-use Rattle.ms_join.specs.Things.{Body, Tuple, Thing, IsThing, IsThingOf, condition_of, tuple_of}
+use Rattle.ms_join.specs.Things.{Body, Thing, IsThing, IsThingOf, condition_of, tuple_of}
 use Rattle.ms_join.specs.Things.Thing.{atom, body, tuple, aggregate}
 use Rattle.ms_things.specs.Numbers.{AreThings}
 use Rattle.ms_complete.specs.Keys.{plain_body}

@@ -1,5 +1,5 @@
 -- A session is sealed where a call finds no memory.
-use Rattle.std.proofs.Common.{◌≡◌, ◌∙◌, ℕ, Bool, false, List, [], refl, sym, ap, subst, Option, Result, Ok, Err}
+use Rattle.std.proofs.Common.{◌≡◌, ◌∙◌, ℕ, Bool, false, [], refl, sym, ap, subst, Option, Result, Ok, Err}
 use Rattle.std.specs.Prelude.{IfOk, is_err}
 use Rattle.ms_base.specs.declared.memory.OutOfMemory.{OutOfMemory}
 use Rattle.ms_call.specs.declared.command.Command.{Command}

@@ -1,7 +1,7 @@
 -- The notes of the numbered things are lines of the machine's log.
-use Rattle.std.proofs.Common.{◌≡◌, ◌∙◌, ◌+◌, ◌<◌, ◌≤◌, ◌++◌, ℕ, List, [], ◌∷◌, Option, Some, None, length, map, drop, refl, sym, ap, subst, arith}
+use Rattle.std.proofs.Common.{◌≡◌, ◌∙◌, ◌+◌, ◌<◌, ◌++◌, ℕ, List, [], ◌∷◌, Option, length, map, drop, sym, ap, subst, arith}
 use Rattle.std.specs.Prelude.{IsSomeAnd, slice_get}
-use Rattle.std.specs.List.{All, AllZip, Any, Contains}
+use Rattle.std.specs.List.{All, AllZip}
 use Rattle.std.proofs.lemmas.List.{length-append}
 use Rattle.std.proofs.lemmas.Option.{slice_get-get_or}
 use Rattle.std.proofs.Math.Seq.{drop-append_seam}
@@ -9,12 +9,11 @@ use Rattle.ms_tree.specs.Tree.{Tree}
 use Rattle.ms_term.specs.Terms.{term_at}
 use Rattle.ms_lits.specs.declared.note.Note.{Note}
 use Rattle.ms_join.specs.declared.ground_module.GroundModule.{GroundModule}
-use Rattle.ms_join.specs.Modules.{Join, IsJoined, IsWellFormed}
-use Rattle.ms_join.specs.Things.{Body, Thing}
+use Rattle.ms_join.specs.Things.{Thing}
 use Rattle.ms_join.specs.Things.Thing.{atom, body, tuple, aggregate}
 use Rattle.ms_things.specs.Numbers.{AreThings}
 use Rattle.ms_nogood.specs.Store.{Store}
-use Rattle.ms_complete.specs.Numbering.{Numbering, AreDeclared, IsFrom}
+use Rattle.ms_complete.specs.Numbering.{Numbering, AreDeclared}
 use Rattle.ms_complete.specs.Completing.{Completes}
 use Rattle.ms_complete.specs.Notes.{AreNamed, Tells as TellsBy}
 use Rattle.ms_complete.proofs.Lists.{at_map}

@@ -1,5 +1,5 @@
 -- Declaring the things that a module brings.
-use Rattle.std.specs.Prelude.{ℕ, ◌≡◌, ◌++◌, List, length, map}
+use Rattle.std.specs.Prelude.{◌≡◌, ◌++◌, List, length, map}
 use Rattle.ms_tree.specs.Tree.{Tree}
 use Rattle.ms_term.specs.Terms.{term_at}
 use Rattle.ms_lits.specs.declared.note.Note.{Note}

@@ -1,4 +1,4 @@
-use Rattle.std.proofs.Common.{◌∙◌, List, drop, length, ap, subst}
+use Rattle.std.proofs.Common.{◌∙◌, drop, length, ap, subst}
 use Rattle.std.specs.List.{AllZip}
 use Rattle.std.proofs.lemmas.Result.{IfOk-weaker}
 use Rattle.ms_complete.specs.Completing.{Completes}
