@@ -10,8 +10,6 @@ pub struct NoSink;
 impl Sink for NoSink {
     ghost held = { λ _. None };
 
-    ghost pieces = { λ _. None };
-
     ghost faults = { λ _. 0 };
 
     fn put(&mut self, piece: &[u8]) -> Result<(), Failed>

@@ -12,4 +12,3 @@ pub mod CommandLemmas
 pub mod LineKinds
 pub mod LineSteps
 pub mod WholeScripts
-pub mod Passing

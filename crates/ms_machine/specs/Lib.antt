@@ -1,4 +1,3 @@
 pub mod Replies
-pub mod Logging
 pub mod Machine
 pub mod Scripts

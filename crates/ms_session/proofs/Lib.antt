@@ -1,5 +1,3 @@
-mod Brought
-mod Telling
 mod Keeping
 mod Finding
 mod Rows

@@ -1,5 +1,4 @@
 pub mod ReadText
-pub mod Declaring
 pub mod Kept
 pub mod Naming
 pub mod Steps

@@ -2,6 +2,4 @@
 #![tactic(auto)]
 
 #[cfg(test)]
-mod serving;
-#[cfg(test)]
 mod top_call;
