@@ -1,5 +1,5 @@
 -- The first elements of tuples, along a list.
-use Rattle.std.proofs.Common.{ℕ, ◌≡◌, ◌<◌, ◌≤◌, ◌+◌, ◌⊎◌, inl, inr, zero, suc, List, [], ◌∷◌, ◌++◌, Bool, true, false, not, ◌&&◌, ◌||◌, cond, length, get_or, take, drop, nat_eq, refl, sym, ◌∙◌, ap, arith, length-append, append_assoc, eq-eqb, add-one}
+use Rattle.std.proofs.Common.{ℕ, ◌≡◌, ◌<◌, ◌≤◌, ◌+◌, ◌-◌, ◌⊎◌, inl, inr, zero, suc, List, [], ◌∷◌, ◌++◌, Bool, true, false, not, ◌&&◌, ◌||◌, cond, length, get_or, take, drop, nat_eq, refl, sym, ◌∙◌, ap, subst, arith, length-append, append_assoc, eq-eqb, add-one}
 use Rattle.std.proofs.lemmas.Bool.{cases_Bool, both_ways, eqb-true, cond-true, cond-false}
 use Rattle.std.proofs.lemmas.List.{append-nil, take-append-drop}
 use Rattle.std.proofs.lemmas.List.Elements.{filter-append}
@@ -72,3 +72,22 @@ there_before es i d grouped below =
       | inl there ↦ (let same = grouped i d below there in parts ∙ ap (λ b. b || p (get_or es i d)) there ∙ sym same)
       | inr none ↦ parts ∙ ap (λ b. b || p (get_or es i d)) none
     ]
+
+get_or-any : (es : List GroundElement) (i : ℕ) (x d : GroundElement) → i < length es → get_or es i x ≡ get_or es i d
+get_or-any [] i x d below = absurd (omega arith)
+get_or-any (e ∷ es) zero x d below = refl
+get_or-any (e ∷ es) (suc i) x d below = get_or-any es i x d (omega arith)
+
+-- so the tuple of the element before tells whether an element is a first one
+pub first_by_before : (es : List GroundElement) (place : ℕ) (d x y : GroundElement) → AreGrouped es → place < length es → (place ≡ 0 → ⊥) → not (pointwise nat_eq (get_or es (place - 1) x).tuple (get_or es place y).tuple) ≡ not (list_any (has_tuple (get_or es place d).tuple) (take place es))
+first_by_before es zero d x y grouped below later = absurd (later refl)
+first_by_before es (suc p) d x y grouped below later =
+    let back : suc p - 1 ≡ p = omega arith in
+    let on : p + 1 ≡ suc p = omega arith in
+    let there = there_before es p d grouped (omega arith) in
+    let there_suc : list_any (has_tuple (get_or es (suc p) d).tuple) (take (suc p) es) ≡ has_tuple (get_or es (suc p) d).tuple (get_or es p d) =
+        subst (λ n. list_any (has_tuple (get_or es n d).tuple) (take n es) ≡ has_tuple (get_or es n d).tuple (get_or es p d)) on there in
+    ap (λ n. not (pointwise nat_eq (get_or es n x).tuple (get_or es (suc p) y).tuple)) back
+    ∙ ap (λ e. not (pointwise nat_eq e.tuple (get_or es (suc p) y).tuple)) (get_or-any es p x d (omega arith))
+    ∙ ap (λ e. not (pointwise nat_eq (get_or es p d).tuple e.tuple)) (get_or-any es (suc p) y d below)
+    ∙ ap not (sym there_suc)

@@ -1,8 +1,6 @@
-use Rattle.std.proofs.Common.{◌≡◌, ◌<◌, ◌+◌, ◌-◌, ◌∙◌, not, length, slice_index_or, take, get_or, nat_eq, ap, sym, subst, arith}
-use Rattle.ms_join.specs.declared.aggregate.GroundElement.{GroundElement}
-use Rattle.ms_join.specs.Aggregates.{has_tuple}
-use Rattle.ms_aggr.proofs.Firsts.{there_before}
+use Rattle.std.proofs.Common.{◌∙◌}
+use Rattle.ms_aggr.proofs.Firsts.{first_by_before}
 use Rattle.ms_aggr.proofs.tuples.is_first.Goals as goal
 
 pub returns-else-place-eq0 : goal.returns-else-place-eq0
-returns-else-place-eq0 c = λ d. let a = c.index-elements-place in let b = c.index-elements-place-else-place-eq0 in let e = c.ne.ensures in let f = c.if-place-eq0.false in ?
+returns-else-place-eq0 c = λ d. c.ne.ensures ∙ first_by_before c.args.elements.now c.args.place d c.index-elements-place.result c.index-elements-place-else-place-eq0.result c.requires.grouped c.requires.within c.if-place-eq0.false
