@@ -13,12 +13,12 @@ use Rattle.ms_aggr.specs.Values.{AreGrouped}
 
 nat_eq_turned : (a b : ℕ) → nat_eq a b ≡ nat_eq b a
 nat_eq_turned a b = elim (cases_Bool (nat_eq a b)) [
-    | inl same ↦ same ∙ sym (eq-eqb b a (sym (eqb-true a b same)))
-    | inr other ↦ (elim (cases_Bool (nat_eq b a)) [
-      | inl same ↦ absurd (both_ways (nat_eq a b) other (eq-eqb a b (sym (eqb-true b a same))))
-      | inr too ↦ other ∙ sym too
-    ])
-  ]
+  | inl same ↦ same ∙ sym (eq-eqb b a (sym (eqb-true a b same)))
+  | inr other ↦ (elim (cases_Bool (nat_eq b a)) [
+    | inl same ↦ absurd (both_ways (nat_eq a b) other (eq-eqb a b (sym (eqb-true b a same))))
+    | inr too ↦ other ∙ sym too
+  ])
+]
 
 pointwise_turned : (xs ys : List ℕ) → pointwise nat_eq xs ys ≡ pointwise nat_eq ys xs
 pointwise_turned [] [] = refl
@@ -86,7 +86,7 @@ first_by_before es (suc p) d x y grouped below later =
     let on : p + 1 ≡ suc p = omega arith in
     let there = there_before es p d grouped (omega arith) in
     let there_suc : list_any (has_tuple (get_or es (suc p) d).tuple) (take (suc p) es) ≡ has_tuple (get_or es (suc p) d).tuple (get_or es p d) =
-        subst (λ n. list_any (has_tuple (get_or es n d).tuple) (take n es) ≡ has_tuple (get_or es n d).tuple (get_or es p d)) on there in
+    subst (λ n. list_any (has_tuple (get_or es n d).tuple) (take n es) ≡ has_tuple (get_or es n d).tuple (get_or es p d)) on there in
     ap (λ n. not (pointwise nat_eq (get_or es n x).tuple (get_or es (suc p) y).tuple)) back
     ∙ ap (λ e. not (pointwise nat_eq e.tuple (get_or es (suc p) y).tuple)) (get_or-any es p x d (omega arith))
     ∙ ap (λ e. not (pointwise nat_eq (get_or es p d).tuple e.tuple)) (get_or-any es (suc p) y d below)

@@ -64,9 +64,9 @@ summed_more part function es given place tuple sum added d x before below first 
     let there : length (first_elements (take place es)) < length given = omega arith in
     let step = sum_more part function (first_elements (take place es)) e given x there in
     let at_count : sum_over part function (first_elements (take place es) ++ e ∷ []) (take (suc tuple) given) ≡ sum_over part function (first_elements (take place es)) (take tuple given) +ℤ part (get_or given tuple x) (weight_for function e.weight) =
-        subst (λ n. sum_over part function (first_elements (take place es) ++ e ∷ []) (take (suc n) given) ≡ sum_over part function (first_elements (take place es)) (take n given) +ℤ part (get_or given n x) (weight_for function e.weight)) (sym count) step in
+    subst (λ n. sum_over part function (first_elements (take place es) ++ e ∷ []) (take (suc n) given) ≡ sum_over part function (first_elements (take place es)) (take n given) +ℤ part (get_or given n x) (weight_for function e.weight)) (sym count) step in
     let total_then : sum +ℤ added ≡ sum_over part function (first_elements (take (suc place) es)) (take (suc tuple) given) =
-        ap (λ n. n +ℤ added) before.summed ∙ ap (λ n. sum_over part function (first_elements (take place es)) (take tuple given) +ℤ n) is ∙ sym at_count ∙ ap (λ fs. sum_over part function fs (take (suc tuple) given)) (sym grown) in
+    ap (λ n. n +ℤ added) before.summed ∙ ap (λ n. sum_over part function (first_elements (take place es)) (take tuple given) +ℤ n) is ∙ sym at_count ∙ ap (λ fs. sum_over part function fs (take (suc tuple) given)) (sym grown) in
     let next_place : suc place ≡ place + 1 = omega arith in
     let next_tuple : suc tuple ≡ tuple + 1 = omega arith in
     let old_low = before.low in
@@ -75,21 +75,21 @@ summed_more part function es given place tuple sum added d x before below first 
       count = subst (λ n. tuple + 1 ≡ length (first_elements (take n es))) next_place counted;
       summed = subst (λ n. sum +ℤ added ≡ sum_over part function (first_elements (take n es)) (take (tuple + 1) given)) next_place (subst (λ n. sum +ℤ added ≡ sum_over part function (first_elements (take (suc place) es)) (take n given)) next_tuple total_then);
       low = omega (arith, ints);
-      high = omega (arith, ints)
+      high = omega (arith, ints);
     }
 
 pub summed_same : {X : Type 0} (part : X → ℤ → ℤ) (function : AggFn3) (es : List GroundElement) (given : List X) (place tuple : ℕ) (sum : ℤ) (d : GroundElement) → Summed part function es given place tuple sum → place < length es → not (list_any (has_tuple (get_or es place d).tuple) (take place es)) ≡ false → Summed part function es given (place + 1) tuple sum
 summed_same part function es given place tuple sum d before below later =
     let same : first_elements (take (place + 1) es) ≡ first_elements (take place es) =
-        ap (λ n. first_elements (take n es)) (let e : place + 1 ≡ suc place = omega arith in e)
-        ∙ firsts_at es place d below
-        ∙ ap (λ b. first_elements (take place es) ++ unless b (get_or es place d)) (not-false (list_any (has_tuple (get_or es place d).tuple) (take place es)) later)
-        ∙ append-nil (first_elements (take place es)) in
+    ap (λ n. first_elements (take n es)) (let e : place + 1 ≡ suc place = omega arith in e)
+    ∙ firsts_at es place d below
+    ∙ ap (λ b. first_elements (take place es) ++ unless b (get_or es place d)) (not-false (list_any (has_tuple (get_or es place d).tuple) (take place es)) later)
+    ∙ append-nil (first_elements (take place es)) in
     record {
       count = before.count ∙ ap length (sym same);
       summed = before.summed ∙ ap (λ fs. sum_over part function fs (take tuple given)) (sym same);
       low = before.low;
-      high = before.high
+      high = before.high;
     }
 
 pub summed_all : {X : Type 0} (part : X → ℤ → ℤ) (function : AggFn3) (es : List GroundElement) (given : List X) (place tuple : ℕ) (sum : ℤ) → Summed part function es given place tuple sum → length es ≤ place → length given ≡ length (first_elements es) → sum ≡ sum_over part function (first_elements es) given

@@ -6,6 +6,6 @@ use Rattle.ms_aggr.proofs.span.bounds.Given as goal
 
 abbrev pub invariant-loop-place : goal.invariant-loop-place
 invariant-loop-place l = record {
-    least : Summed (λ var. least_part (value_in l.trail.entries var)) l.a.function l.elements l.things l.place l.tuple l.least;
-    greatest : Summed (λ var. greatest_part (value_in l.trail.entries var)) l.a.function l.elements l.things l.place l.tuple l.greatest
-  }
+  least : Summed (λ var. least_part (value_in l.trail.entries var)) l.a.function l.elements l.things l.place l.tuple l.least;
+  greatest : Summed (λ var. greatest_part (value_in l.trail.entries var)) l.a.function l.elements l.things l.place l.tuple l.greatest;
+}

@@ -18,7 +18,11 @@ bounds-truths-tuple c =
     first_is_given taken c.args.a.now.function c.as_slice-elements.result.now c.as_slice-truths.result.now c.loop-place.place c.loop-place.tuple _ some_element c.loop-place.invariant c.loop-place-test.true (sym (c.is_first.ensures some_element) ∙ c.if-is_first.true) long
 
 pub overflow_add-tuple : goal.overflow_add-tuple
-overflow_add-tuple c = ?
+overflow_add-tuple c =
+    let long : length c.as_slice-truths.result.now ≡ length (first_elements c.as_slice-elements.result.now) = cc (c.requires.truths, c.as_slice-truths.ensures, c.as_slice-elements.ensures) in
+    let there : c.loop-place.tuple < length c.as_slice-truths.result.now = first_is_given taken c.args.a.now.function c.as_slice-elements.result.now c.as_slice-truths.result.now c.loop-place.place c.loop-place.tuple _ some_element c.loop-place.invariant c.loop-place-test.true (sym (c.is_first.ensures some_element) ∙ c.if-is_first.true) long in
+    let few : length c.as_slice-truths.result.now ≤ 4000000 = rw c.as_slice-truths.ensures c.requires.few in
+    search (rules, there, few)
 
 pub loop-place-preserved : goal.loop-place-preserved
 loop-place-preserved c = ?
