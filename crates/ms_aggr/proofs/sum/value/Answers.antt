@@ -1,4 +1,4 @@
-use Rattle.std.proofs.Common.{◌≡◌, ◌≤◌, ◌<◌, ◌+◌, ◌∙◌, length, ap, sym, arith, not, true, ℤ, [], None}
+use Rattle.std.proofs.Common.{◌≡◌, ◌≤◌, ◌<◌, ◌+◌, ◌∙◌, length, ap, sym, arith, not, true, ℤ, [], None, rules}
 use Rattle.ms_join.specs.declared.aggregate.GroundElement.{GroundElement}
 use Rattle.ms_join.specs.Aggregates.{first_elements}
 use Rattle.ms_aggr.specs.Values.{taken}
