@@ -1,13 +1,11 @@
--- The atoms that core rules over a base speak of.
+-- The atoms that copies over a base speak of.
 -- Source: that an atom which no rule and no external gives is false is after Gebser, Kaminski, Kaufmann and Schaub,
 -- "Multi-shot ASP solving with clingo" (2019). The exact sets are this project's.
-use Rattle.std.specs.Prelude.{◌≡◌, Bool, true, false, ◌⊎◌, List, Some, Option, Any, Contains, option_and_then}
+use Rattle.std.specs.Prelude.{◌≡◌, Bool, true, false, ◌⊎◌, List, Some, Any, Contains}
 use Rattle.ms_tree.specs.Tree.{Tree}
 use Rattle.ms_core.specs.declared.rule.RuleKind.{RuleKind}
 use Rattle.ms_core.specs.declared.rule.RuleKind.TheVariants.{Normal, Choice, Constraint, External}
-use Rattle.ms_core.specs.declared.rule.CoreRule.{CoreRule}
-use Rattle.ms_copies.specs.Evaluating.{Chosen, value}
-use Rattle.ms_copies.specs.Choosing.{IsCopy}
+use Rattle.ms_copies.specs.Saying.{Said}
 
 abbrev pub gives_head : RuleKind → Bool
 gives_head Normal = true
@@ -21,21 +19,18 @@ gives_external Choice = false
 gives_external Constraint = false
 gives_external External = true
 
-abbrev pub head_under : Chosen → CoreRule → Option Tree
-head_under chosen rule = option_and_then (value chosen) rule.head
-
 -- the term is the head of a copy of a rule of such a kind
-abbrev pub IsHeadOf : (RuleKind → Bool) → List CoreRule → Tree → Type 0
-IsHeadOf is_kind rules t = Any (λ rule. (is_kind rule.kind ≡ true) × ((chosen : Chosen) × IsCopy rule chosen × (head_under chosen rule ≡ Some t))) rules
+abbrev pub IsHeadOf : (RuleKind → Bool) → List Said → Tree → Type 0
+IsHeadOf is_kind said t = Any (λ s. (is_kind s.kind ≡ true) × (s.head ≡ Some t)) said
 
 -- The heads: those of the copies of normal rules and choices.
-abbrev pub IsHead : List CoreRule → Tree → Type 0
-IsHead rules t = IsHeadOf gives_head rules t
+abbrev pub IsHead : List Said → Tree → Type 0
+IsHead said t = IsHeadOf gives_head said t
 
 -- The declared externals.
-abbrev pub IsExternal : List CoreRule → Tree → Type 0
-IsExternal rules t = IsHeadOf gives_external rules t
+abbrev pub IsExternal : List Said → Tree → Type 0
+IsExternal said t = IsHeadOf gives_external said t
 
 -- The atoms of the base, the heads and the declared externals.
-abbrev pub IsKnown : List Tree → List CoreRule → Tree → Type 0
-IsKnown base rules t = Contains base t ⊎ (IsHead rules t ⊎ IsExternal rules t)
+abbrev pub IsKnown : List Tree → List Said → Tree → Type 0
+IsKnown base said t = Contains base t ⊎ (IsHead said t ⊎ IsExternal said t)

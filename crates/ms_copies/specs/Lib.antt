@@ -1,6 +1,9 @@
+pub mod Naming
 pub mod Evaluating
 pub mod Choosing
 pub mod InOrder
+pub mod Saying
 pub mod Grounding
+pub mod Elements
 pub mod Simplifying
 pub mod Limits
