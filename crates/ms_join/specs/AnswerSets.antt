@@ -3,13 +3,17 @@
 -- as in Niemela, "Logic programs with stable model semantics as a constraint programming paradigm" (1999); a
 -- choice as in Simons, Niemela and Soininen, "Extending and implementing the stable model semantics" (2002); inputs
 -- as the externals of Gebser, Kaminski, Kaufmann and Schaub, "Multi-shot ASP solving with clingo" (2019).
-use Rattle.std.specs.Prelude.{ℕ, ◌≡◌, ◌<◌, Bool, true, false, ◌&&◌, IsTrue, [], Option, All, Some, None, IfSome, IsSomeAnd, ⊤}
+use Rattle.std.specs.Prelude.{ℕ, ◌≡◌, ◌<◌, Bool, true, false, ◌&&◌, IsTrue, Option, All, Contains, Some, None, IfSome, IsSomeAnd, ⊤}
 use Rattle.std.specs.List.{list_all}
+use Rattle.std.specs.List.Sorted.{IsStrictlySortedBy}
+use Rattle.ms_join.specs.declared.aggregate.GroundElement.{GroundElement}
+use Rattle.ms_join.specs.declared.aggregate.GroundAgg.{GroundAgg}
 use Rattle.ms_join.specs.declared.ground_rule.GroundRule.{GroundRule}
 use Rattle.ms_join.specs.declared.ground_rule.Rules.{Rules}
 use Rattle.ms_join.specs.declared.ground_rule.GroundKind.{GroundKind}
 use Rattle.ms_join.specs.declared.ground_rule.GroundKind.TheVariants.{Normal, Choice, Constraint}
 use Rattle.ms_join.specs.Aggregates.{signed_holds}
+use Rattle.ms_join.specs.Orders.{compare_elements}
 pub use Rattle.ms_join.specs.Sets.{has_all, has_none, set_of, IsAtomSet}
 
 -- The side condition of a rule holds in the set: none of its negated atoms is there, and its signed aggregates hold.
@@ -53,12 +57,24 @@ HasHead n Normal head = IsSomeAnd head (λ h. h < n)
 HasHead n Choice head = IsSomeAnd head (λ h. h < n)
 HasHead n Constraint head = head ≡ None
 
--- A rule over the atoms below n. Rules with aggregates aren't ground yet.
+-- An element over the atoms below n.
+pub record IsElementOver (n : ℕ) (e : GroundElement) : Type 0 where
+  pub pos : All (λ a. a < n) e.pos
+  pub neg : All (λ a. a < n) e.neg
+
+-- An aggregate over the atoms below n: its elements are a set, as a list in rising order, and those with equal tuples
+-- have equal weights.
+pub record IsAggregateOver (n : ℕ) (g : GroundAgg) : Type 0 where
+  pub rising : IsStrictlySortedBy compare_elements g.elements
+  pub elements : All (IsElementOver n) g.elements
+  pub weights : (e f : GroundElement) → Contains g.elements e → Contains g.elements f → e.tuple ≡ f.tuple → e.weight ≡ f.weight
+
+-- A rule over the atoms below n.
 pub record IsRuleOver (n : ℕ) (rule : GroundRule) : Type 0 where
   pub head : HasHead n rule.kind rule.head
   pub pos : All (λ a. a < n) rule.pos
   pub neg : All (λ a. a < n) rule.neg
-  pub plain : rule.aggs ≡ []
+  pub aggs : All (λ s. IsAggregateOver n s.agg) rule.aggs
 
 -- Rules over the atoms below n, and inputs among them.
 pub record AreRulesOver (n : ℕ) (join : Rules) : Type 0 where

@@ -13,7 +13,7 @@ use Rattle.ms_join.specs.declared.join_fault.JoinFault.{JoinFault}
 use Rattle.ms_join.specs.declared.join_fault.JoinFault.TheVariants.{TooMany, Redefined, CrossLoop, RecursiveAggregate, OutOfMemory}
 use Rattle.ms_join.specs.Things.{Thing, IsThing}
 use Rattle.ms_join.specs.Modules.{Join, IsOutput}
-use Rattle.ms_join.specs.Dependencies.{AreTogether, DependsInAggregate}
+use Rattle.ms_join.specs.Dependencies.{AreTogether, IsRecursiveBy}
 
 -- A join with so many atoms and these rules has more things than it may have.
 pub record HasTooMany (atoms : ℕ) (rules : List GroundRule) : Type 0 where
@@ -46,11 +46,9 @@ pub record IsInLoop (j : Join) (m : GroundModule) (a : ℕ) : Type 0 where
   pub head : Contains m.heads a
   pub loops : (b : ℕ) × LoopsWith j m a b
 
--- a head that depends through an aggregate on an atom of its own component
-pub record IsRecursive (j : Join) (m : GroundModule) (a : ℕ) : Type 0 where
-  pub other : ℕ
-  pub depends : DependsInAggregate (j.rules ++ m.rules) a other
-  pub together : AreTogether (j.rules ++ m.rules) a other
+-- a head that depends through an aggregate on an atom of its own component, by the old rules and the new ones
+abbrev pub IsRecursive : Join → GroundModule → ℕ → Type 0
+IsRecursive j m a = IsRecursiveBy (j.rules ++ m.rules) a
 
 abbrev pub IsTooMany : Join → GroundModule → Type 0
 IsTooMany j m = HasTooMany (j.atoms + m.fresh) (j.rules ++ m.rules)

@@ -36,3 +36,9 @@ pub record Reaches (rules : List GroundRule) (a b : ℕ) : Type 0 where
 pub record AreTogether (rules : List GroundRule) (a b : ℕ) : Type 0 where
   pub forth : Reaches rules a b
   pub back : Reaches rules b a
+
+-- The atom depends through an aggregate on an atom of its own component.
+pub record IsRecursiveBy (rules : List GroundRule) (a : ℕ) : Type 0 where
+  pub other : ℕ
+  pub depends : DependsInAggregate rules a other
+  pub together : AreTogether rules a other

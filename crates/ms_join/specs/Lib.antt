@@ -1,10 +1,10 @@
 pub mod Sets
 pub mod Aggregates
+pub mod Orders
 pub mod AnswerSets
 pub mod Assumptions
-pub mod Orders
-pub mod Modules
 pub mod Things
 pub mod Dependencies
+pub mod Modules
 pub mod Composability
 pub mod Possible

@@ -3,7 +3,8 @@
 -- Source: Oikarinen and Janhunen, "Modular equivalence for normal logic programs" (2006); externals, and that a released
 -- one is false for good, after Gebser, Kaminski, Kaufmann and Schaub, "Multi-shot ASP solving with clingo" (2019).
 use Rattle.std.specs.Prelude.{ℕ, ◌≡◌, ◌≢◌, ◌↔◌, ◌+◌, ◌<◌, ◌≤◌, ◌⊎◌, ◌++◌, Bool, true, false, List, [], Option, Some, None, All, AllPairs, Any, Contains, IfSome, length}
-use Rattle.std.specs.List.Sorted.{IsStrictlyIncreasing}
+use Rattle.std.specs.List.Sorted.{IsStrictlyIncreasing, IsStrictlySortedBy}
+use Rattle.ms_join.specs.declared.aggregate.GroundElement.{GroundElement}
 use Rattle.ms_join.specs.declared.ground_rule.GroundRule.{GroundRule}
 use Rattle.ms_join.specs.declared.ground_rule.Input.{Input}
 use Rattle.ms_join.specs.declared.ground_rule.Rules.{Rules}
@@ -11,11 +12,21 @@ use Rattle.ms_join.specs.declared.ground_module.GroundModule.{GroundModule}
 use Rattle.ms_base.specs.declared.truth.Truth.{Truth}
 use Rattle.ms_base.specs.declared.truth.Truth.TheVariants.{True, False, Free}
 use Rattle.ms_join.specs.AnswerSets.{IsAtomSet, IsRuleOver, AreRulesOver}
+use Rattle.ms_join.specs.Dependencies.{IsRecursiveBy}
+use Rattle.ms_join.specs.Orders.{compare_signed}
 
--- The positive and the negated atoms of the rule are sets, as lists in rising order.
+-- The condition of the element is made of sets, as lists in rising order.
+pub record IsSetElement (e : GroundElement) : Type 0 where
+  pub pos : IsStrictlyIncreasing e.pos
+  pub neg : IsStrictlyIncreasing e.neg
+
+-- The positive atoms, the negated ones and the aggregates of the rule are sets, as lists in rising order, and so are the
+-- conditions of the elements.
 pub record HasSets (rule : GroundRule) : Type 0 where
   pub pos : IsStrictlyIncreasing rule.pos
   pub neg : IsStrictlyIncreasing rule.neg
+  pub aggs : IsStrictlySortedBy compare_signed rule.aggs
+  pub elements : All (λ s. All IsSetElement s.agg.elements) rule.aggs
 
 -- The module is well formed over a base of so many atoms: the numbers of its new atoms follow those of the base,
 -- its rules, heads and externals speak of these atoms alone, the bodies of its rules are sets, a constraint has no head,
@@ -50,11 +61,12 @@ pub record IsOutput (j : Join) (a : ℕ) : Type 0 where
   pub within : a < j.atoms
   pub no_input : ¬ IsInput j a
 
--- What every join keeps: its rules and inputs are over its base, the bodies of its rules are sets, each input is there
--- once, and no input is the head of a rule.
+-- What every join keeps: its rules and inputs are over its base, the bodies of its rules are sets, no atom depends through
+-- an aggregate on one of its own component, each input is there once, and no input is the head of a rule.
 pub record IsJoin (j : Join) : Type 0 where
   pub over : AreRulesOver j.atoms (rules_of j)
   pub bodies : All HasSets j.rules
+  pub no_recursion : (a : ℕ) → ¬ IsRecursiveBy j.rules a
   pub once : AllPairs (λ i k. i.atom ≢ k.atom) j.inputs
   pub outputs : All (λ rule. IfSome rule.head (λ h. ¬ IsInput j h)) j.rules
 
