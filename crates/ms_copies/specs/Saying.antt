@@ -82,11 +82,17 @@ said_by_element of_rule e = filter_map (λ own. said_element e (of_rule ++ own))
 abbrev pub said_guard : Chosen → Guard → Option SaidGuard
 said_guard chosen g = option_map (λ bound. record { cmp = g.cmp; bound = bound }) (value chosen g.bound)
 
+-- the bounds of the aggregate, where each has a value
+abbrev pub said_guards : Chosen → Agg → Option (List SaidGuard)
+said_guards chosen a = for_all (said_guard chosen) a.guards
+
+-- an aggregate with these bounds, and the copies of its elements
+abbrev pub with_guards : Chosen → Agg → List SaidGuard → SaidAggregate
+with_guards chosen a guards = record { negated = a.negated; function = a.function; elements = flat_map (said_by_element chosen) a.elements; guards = guards }
+
 -- What the aggregate says under the choice of its rule, where each bound has a value.
 abbrev pub said_aggregate : Chosen → Agg → Option SaidAggregate
-said_aggregate chosen a =
-    option_map (λ guards. record { negated = a.negated; function = a.function; elements = flat_map (said_by_element chosen) a.elements; guards = guards })
-    (for_all (said_guard chosen) a.guards)
+said_aggregate chosen a = option_map (with_guards chosen a) (said_guards chosen a)
 
 -- What the rule says under a choice.
 abbrev pub said_of : CoreRule → Chosen → Option Said

@@ -5,7 +5,8 @@ use Rattle.ms_term.specs.Terms.{term_at}
 use Rattle.ms_join.specs.declared.ground_module.GroundModule.{GroundModule}
 use Rattle.ms_join.specs.Modules.{IsWellFormed}
 use Rattle.ms_instances.specs.declared.instance.Instance.{Instance}
-use Rattle.ms_instances.specs.Instances.{said_by, IsModuleBy}
+use Rattle.ms_copies.specs.Simplifying.{IsModule}
+use Rattle.ms_instances.specs.Instances.{said_by}
 
 -- The new base begins with the old one.
 pub record IsFrontOf (old new : List ℕ) : Type 0 where
@@ -14,7 +15,7 @@ pub record IsFrontOf (old new : List ℕ) : Type 0 where
 
 -- The ground module of what the instances say over the old base. The new base is the old one and then the new atoms.
 pub record IsGrownBy (table : List Tree) (instances : List Instance) (old new : List ℕ) (m : GroundModule) : Type 0 where
-  pub is : IsModuleBy (map (term_at table) old) (map (said_by table) instances) (map (term_at table) m.names) m
+  pub is : IsModule table (map (term_at table) old) (map (said_by table) instances) (map (term_at table) m.names) m
   pub base : new ≡ old ++ m.names
   pub well_formed : IsWellFormed (length old) m
   pub named : All (λ n. n < length table) new

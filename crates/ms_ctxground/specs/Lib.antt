@@ -1,4 +1,5 @@
 pub mod Numbering
+pub mod LeftAggregates
 pub mod LeftRules
 pub mod NewAtoms
 pub mod Growing

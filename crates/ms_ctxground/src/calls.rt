@@ -5,7 +5,7 @@ ghost use Rattle.ms_solving.specs.Grounding.{core_of_calls};
 ghost use Rattle.ms_ctxground.specs.Grounds.{Grounds, IsBaseIn};
 
 use crate::fault::GroundFault;
-use crate::plain_rules::{ground_rules, has_aggregates};
+use crate::grounding::ground_rules;
 use ms_atombase::AtomBase;
 use ms_call::command::{Call, Calls};
 use ms_core::rule::CoreRule;
@@ -14,9 +14,8 @@ use ms_parts::Parts;
 use ms_term::{OutOfMemory, Terms};
 use std::alloc::Global;
 
-/// The ground module of calls of parts over a base, which grows by the new atoms. Where there is none the base stays:
-/// a rule with an aggregate isn't ground yet, which is asked first, and then the grounding may be too large. The time is
-/// that of the rules of the parts and of their copies, whatever the base has.
+/// The ground module of calls of parts over a base, which grows by the new atoms. Where the grounding is too large the
+/// base stays. The time is that of the rules of the parts and of their copies, whatever the base has.
 pub fn ground(
     alloc: Global,
     base: &mut AtomBase,
@@ -29,9 +28,6 @@ pub fn ground(
     ensures { Grounds (core_of_calls parts.now calls.now) terms.old terms.new base.old base.new result }
 {
     let rules = core_rules(alloc, parts, calls.as_slice())?;
-    if has_aggregates(rules.as_slice()) {
-        return Err(GroundFault::Later);
-    }
     ground_rules(alloc, base, terms, rules.as_slice())
 }
 

@@ -6,9 +6,7 @@ use std::fmt;
 /// Why calls of parts have no ground module.
 #[derive(Clone, Copy, Debug, PartialEq, Eq)]
 pub enum GroundFault {
-    /// A rule has an aggregate, which isn't ground yet.
-    Later,
-    /// There are more copies of rules than there may be, or an atom has more symbols than one may have.
+    /// There are more copies of rules and elements than there may be, or an atom has more symbols than one may have.
     TooLarge,
     OutOfMemory,
 }
@@ -16,7 +14,6 @@ pub enum GroundFault {
 impl fmt::Display for GroundFault {
     fn fmt<W: fmt::Write>(&self, f: &mut fmt::Formatter<W>) -> fmt::Result {
         match self {
-            GroundFault::Later => f.write_str("aggregates come later"),
             GroundFault::TooLarge => f.write_str("too large"),
             GroundFault::OutOfMemory => f.write_str("out of memory"),
         }

@@ -1,12 +1,14 @@
 // The ground module of core rules over a base.
 #![tactic(auto)]
 
+mod aggregate;
 mod calls;
+mod element;
 mod fault;
+mod grounding;
 mod module;
 mod new_atoms;
 mod numbers;
-mod plain_rules;
 mod rule;
 mod size;
 

@@ -2,10 +2,9 @@
 ghost use Rattle.std.specs.Prelude.{◌≡◌, ◌+◌, ◌<◌, ◌≤◌, ◌++◌, ◌≢◌, All, AllPairs, Contains, IfOk, OnErr, OnOk, length, map};
 ghost use Rattle.ms_base.specs.Limits.{most_copies, most_things};
 ghost use Rattle.ms_term.specs.Terms.{AllDifferent};
-ghost use Rattle.ms_instances.specs.Instances.{IsHeaded};
+ghost use Rattle.ms_instances.specs.Instances.{IsHeaded, IsNamed};
 ghost use Rattle.std.specs.Option.{ForSome};
 ghost use Rattle.ms_ctxground.specs.LeftRules.{AreLeftInOrder};
-ghost use Rattle.ms_instances.specs.Naming.{IsNamed};
 ghost use Rattle.ms_ctxground.specs.Growing.{IsFrontOf, IsGrownBy};
 
 use crate::new_atoms::{externals, new_names, outputs};
@@ -69,7 +68,7 @@ fn grown_by(
     Ok(GroundModule {
         first_new,
         fresh: names.len() as u32,
-        rules: rule_set(alloc, base, instances)?,
+        rules: rule_set(alloc, base, terms, instances)?,
         externals: numbers_of_known(alloc, base, externals.as_slice())?,
         heads: numbers_of_known(alloc, base, outputs.as_slice())?,
         names,
@@ -94,12 +93,14 @@ fn add(base: &mut AtomBase, names: &[TermId]) -> Result<(), OutOfMemory>
 fn rule_set(
     alloc: Global,
     base: &AtomBase,
+    terms: &Terms,
     instances: &[Instance],
 ) -> Result<GroundRules, OutOfMemory>
-    requires { All (λ i. ForSome i.head (Contains base.now)) instances.now }
-    ensures { IfOk result (AreLeftInOrder base.now instances.now) }
+    requires heads { All (λ i. ForSome i.head (Contains base.now)) instances.now }
+    requires named { All (IsNamed (length terms.now)) instances.now }
+    ensures { IfOk result (AreLeftInOrder terms.now base.now instances.now) }
 {
-    let mut rules = left_rules(alloc, base, instances)?;
+    let mut rules = left_rules(alloc, base, terms, instances)?;
     rules.sort_unstable();
     rules.dedup();
     Ok(Seq::from_vec(rules))

@@ -3,7 +3,7 @@ ghost use Rattle.std.specs.Prelude.{◌<◌, All, IsTrue, ◌↔◌, length, IfS
 ghost use Rattle.ms_tree.specs.Size.{tree_size};
 ghost use Rattle.ms_term.specs.Terms.{term_at};
 ghost use Rattle.ms_copies.specs.Limits.{most_symbols};
-ghost use Rattle.ms_instances.specs.Naming.{IsNamed};
+ghost use Rattle.ms_instances.specs.Instances.{IsNamed};
 ghost use Rattle.ms_ctxground.specs.Sizes.{HasLarge, HasLargeHead};
 
 use ms_atombase::AtomBase;

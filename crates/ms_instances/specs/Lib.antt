@@ -1,3 +1,3 @@
 pub mod Instances
-pub mod Listing
 pub mod Naming
+pub mod Laws

@@ -1,25 +1,73 @@
-// What one copy says, under the names of a table.
-ghost use Rattle.std.specs.Prelude.{IfOk};
-ghost use Rattle.std.specs.List.{list_all};
-ghost use Rattle.ms_instances.specs.Listing.{holds, head_value, said_of};
-ghost use Rattle.ms_instances.specs.Naming.{Tells, GivesHead, GivesInstance};
+// What one copy of a rule says, under the names of a table.
+ghost use Rattle.std.specs.Prelude.{◌≡◌, ◌+◌, IfOk, IfErr, option_to_list};
+ghost use Rattle.ms_copies.specs.Saying.{copies_said, head_value, said_of};
+ghost use Rattle.ms_instances.specs.Naming.{GivesHead, GivesInstance, GivesOutside, Refuses};
 
+use crate::elements::aggregates_of;
+use crate::fault::InstanceFault;
+use crate::guards::{InstanceGuardLists, guards_of};
+use crate::holding::all_hold;
 use crate::instance::Instance;
+use crate::room::take_place;
 use ms_base::seq::Seq;
 use ms_core::pattern::Pattern;
-use ms_core::rule::{CoreRule, Test};
+use ms_core::rule::CoreRule;
+use ms_join::ground_module::TermIds;
 use ms_term::{OutOfMemory, TermId, Terms};
-use ms_value::{evaluate, evaluate_all, holds, integers_hold};
+use ms_value::{evaluate, evaluate_all};
 use std::alloc::Global;
 
-/// What a rule says under a choice, or `None` exactly where a comparison doesn't hold or a term has no value.
+/// What a copy says beside the elements of its aggregates.
+#[derive(Drop)]
+pub(crate) struct Outside {
+    pub head: Option<TermId>,
+    pub pos: TermIds,
+    pub neg: TermIds,
+    pub guards: InstanceGuardLists,
+}
+
+/// What a rule says under a choice, or `None` exactly where a comparison doesn't hold or a term outside its elements has
+/// no value. The copy and those of its elements take their places.
 pub(crate) fn instance_of(
     alloc: Global,
     terms: &mut Terms,
     rule: &CoreRule,
     chosen: &[i64],
-) -> Result<Option<Instance>, OutOfMemory>
-    ensures { IfOk result (GivesInstance terms.old terms.new (said_of rule.now chosen.now)) }
+    room: &mut usize,
+) -> Result<Option<Instance>, InstanceFault>
+    ensures ok { IfOk result (GivesInstance terms.old terms.new (said_of rule.now chosen.now)) }
+    ensures room { IfOk result (λ instance. room.old ≡ room.new + copies_said (option_to_list (said_of rule.now chosen.now))) }
+    ensures err { IfErr result (Refuses terms.old terms.new room.old (copies_said (option_to_list (said_of rule.now chosen.now)))) }
+{
+    let Some(outside) = outside_of(alloc, terms, rule, chosen)? else {
+        return Ok(None);
+    };
+    take_place(room)?;
+    let aggs = aggregates_of(
+        alloc,
+        terms,
+        rule.aggs.as_slice(),
+        outside.guards,
+        chosen,
+        room,
+    )?;
+    Ok(Some(Instance {
+        kind: rule.kind,
+        head: outside.head,
+        pos: outside.pos,
+        neg: outside.neg,
+        aggs,
+    }))
+}
+
+/// What a rule says under a choice beside the elements of its aggregates, or `None` exactly where it says nothing.
+fn outside_of(
+    alloc: Global,
+    terms: &mut Terms,
+    rule: &CoreRule,
+    chosen: &[i64],
+) -> Result<Option<Outside>, OutOfMemory>
+    ensures { IfOk result (GivesOutside terms.old terms.new rule.now chosen.now) }
 {
     if !all_hold(alloc, terms, rule.conds.tests.as_slice(), chosen)? {
         return Ok(None);
@@ -33,62 +81,15 @@ pub(crate) fn instance_of(
     let Some(neg) = evaluate_all(alloc, terms, rule.conds.neg.as_slice(), chosen)? else {
         return Ok(None);
     };
-    Ok(Some(Instance {
-        kind: rule.kind,
+    let Some(guards) = guards_of(alloc, terms, rule.aggs.as_slice(), chosen)? else {
+        return Ok(None);
+    };
+    Ok(Some(Outside {
         head,
         pos: Seq::from_vec(pos),
         neg: Seq::from_vec(neg),
+        guards,
     }))
-}
-
-/// Whether each comparison holds, with a value on both sides.
-fn all_hold(
-    alloc: Global,
-    terms: &mut Terms,
-    tests: &[Test],
-    chosen: &[i64],
-) -> Result<bool, OutOfMemory>
-    ensures { IfOk result (λ all. Tells terms.old terms.new all (list_all (holds chosen.now) tests.now)) }
-{
-    for test in tests {
-        if !test_holds(alloc, terms, test, chosen)? {
-            return Ok(false);
-        }
-    }
-    Ok(true)
-}
-
-/// Whether a comparison holds, with a value on both sides. Terms are named only where one of them is no integer.
-fn test_holds(
-    alloc: Global,
-    terms: &mut Terms,
-    test: &Test,
-    chosen: &[i64],
-) -> Result<bool, OutOfMemory>
-    ensures { IfOk result (λ it. Tells terms.old terms.new it (holds chosen.now test.now)) }
-{
-    match integers_hold(test, chosen) {
-        Some(it) => Ok(it),
-        None => terms_hold(alloc, terms, test, chosen),
-    }
-}
-
-/// The same by the names of the terms.
-fn terms_hold(
-    alloc: Global,
-    terms: &mut Terms,
-    test: &Test,
-    chosen: &[i64],
-) -> Result<bool, OutOfMemory>
-    ensures { IfOk result (λ it. Tells terms.old terms.new it (holds chosen.now test.now)) }
-{
-    let Some(left) = evaluate(alloc, terms, &test.left, chosen)? else {
-        return Ok(false);
-    };
-    let Some(right) = evaluate(alloc, terms, &test.right, chosen)? else {
-        return Ok(false);
-    };
-    Ok(holds(terms, test.cmp, left, right))
 }
 
 /// The name of a head's value, or `None` exactly where there is a head without a value.

@@ -1,6 +1,7 @@
 pub mod Sets
 pub mod Aggregates
 pub mod Orders
+pub mod Runs
 pub mod AnswerSets
 pub mod Assumptions
 pub mod Things

@@ -7,3 +7,4 @@ pub mod assumption;
 pub mod ground_module;
 pub mod ground_rule;
 pub mod join_fault;
+pub mod run;

@@ -16,18 +16,21 @@ use Rattle.ms_join.specs.Things.{Thing}
 use Rattle.ms_lits.specs.Literals.{Nogood}
 use Rattle.ms_lits.specs.declared.note.Note.{Note}
 use Rattle.ms_lits.specs.declared.note.Ending.TheVariants.{Cut}
+use Rattle.ms_copies.specs.Naming.{IsGrownTable}
+use Rattle.ms_copies.specs.Saying.{all_said}
 use Rattle.ms_copies.specs.Limits.{IsTooLarge}
-use Rattle.ms_machine.specs.declared.reply.Refusal.TheVariants.{Syntax, Const, Later, TooLarge, TooMany, Redefined, CrossLoop, RecursiveAggregate, Small}
+use Rattle.ms_machine.specs.declared.reply.Refusal.TheVariants.{Syntax, Const, TooLarge, TooMany, Redefined, CrossLoop, RecursiveAggregate, Small}
 use Rattle.ms_solving.specs.Grounding.{core_of_calls, Grounds}
 use Rattle.ms_solving.specs.Listing.{Solves, tree_of_value}
 use Rattle.ms_solving.specs.Showing.{shows_atom}
 use Rattle.ms_machine.specs.Replies.{Output, Reply, added, grounded, assigned, released, no_effect, solved, refused}
-use Rattle.ms_copies.specs.Simplifying.{ArePlain}
 
--- What the machine keeps: the accepted texts, the terms of the atoms of the base by their numbers, and the join; and what
--- the log has told: the things that it declared, in their order, and the nogoods that are kept by it.
+-- What the machine keeps: the accepted texts, a table of terms, whose names the tuples and bounds of aggregates have, the
+-- terms of the atoms of the base by their numbers, and the join; and what the log has told: the things that it declared, in
+-- their order, and the nogoods that are kept by it.
 pub record State : Type 0 where
   pub texts : Texts
+  pub table : List Tree
   pub names : List Tree
   pub join : Join
   pub things : List Thing
@@ -35,7 +38,7 @@ pub record State : Type 0 where
 
 -- before the first command
 abbrev pub start : State
-start = record { texts = no_texts; names = []; join = no_join; things = []; kept = [] }
+start = record { texts = no_texts; table = []; names = []; join = no_join; things = []; kept = [] }
 
 -- how many atoms a base may have of which every set is tried
 abbrev pub most_tried : ℕ
@@ -46,15 +49,16 @@ pub record IsInputNamed (s : State) (t : Tree) (a : ℕ) : Type 0 where
   pub named : slice_get s.names a ≡ Some t
   pub input : IsInput s.join a
 
--- the calls have this module, whose new atoms have these terms
-abbrev pub GroundsCalls : State → List Call → List Tree → GroundModule → Type 0
-GroundsCalls s calls names m = Grounds s.names (core_of_calls s.texts calls) names m
+-- The table grows to another one, by whose names the calls have this module, and its new atoms have these terms.
+pub record GroundsCalls (s : State) (calls : List Call) (table names : List Tree) (m : GroundModule) : Type 0 where
+  pub grows : IsGrownTable s.table table
+  pub grounds : Grounds table s.names (core_of_calls s.texts calls) names m
 
 -- The module was joined.
 pub record Joins (old : State) (calls : List Call) (atoms count : ℕ) (new : State) : Type 0 where
   pub names : List Tree
   pub ground_module : GroundModule
-  pub grounds : GroundsCalls old calls names ground_module
+  pub grounds : GroundsCalls old calls new.table names ground_module
   pub composable : IsComposable old.join ground_module
   pub atoms_are : atoms ≡ length names
   pub rules_are : count ≡ length ground_module.rules
@@ -64,9 +68,10 @@ pub record Joins (old : State) (calls : List Call) (atoms count : ℕ) (new : St
 
 -- The module can't be joined, for this reason.
 pub record IsRefused (old : State) (calls : List Call) (Why : List Tree → GroundModule → Type 0) : Type 0 where
+  pub table : List Tree
   pub names : List Tree
   pub ground_module : GroundModule
-  pub grounds : GroundsCalls old calls names ground_module
+  pub grounds : GroundsCalls old calls table names ground_module
   pub why : Why (old.names ++ names) ground_module
 
 -- the least head that is an output already, by its text
@@ -93,21 +98,18 @@ Answers old (Add text) (refused (Syntax line)) new = IsNoText text line × (new 
 Answers old (Add text) (refused (Const line)) new =
     (statements : List Statement) × Reads text statements × (const_twice old.texts statements ≡ Some line) × (new ≡ old)
 Answers old (Ground calls) (grounded atoms count) new = Joins old calls atoms count new
--- a core rule has an aggregate
-Answers old (Ground calls) (refused Later) new = (¬ ArePlain (core_of_calls old.texts calls)) × (new ≡ old)
-Answers old (Ground calls) (refused TooLarge) new =
-    ArePlain (core_of_calls old.texts calls) × IsTooLarge old.names (core_of_calls old.texts calls) × (new ≡ old)
+Answers old (Ground calls) (refused TooLarge) new = IsTooLarge old.names (all_said (core_of_calls old.texts calls)) × (new ≡ old)
 Answers old (Ground calls) (refused TooMany) new = IsRefused old calls (λ names m. IsTooMany old.join m) × (new ≡ old)
 Answers old (Ground calls) (refused (Redefined atom)) new = IsRefused old calls (RedefinesAs old.join atom) × (new ≡ old)
 Answers old (Ground calls) (refused (CrossLoop new_head other)) new = IsRefused old calls (LoopsAs old.join new_head other) × (new ≡ old)
 Answers old (Ground calls) (refused (RecursiveAggregate atom)) new = IsRefused old calls (RecursesAs old.join atom) × (new ≡ old)
 Answers old (Assign atom truth) assigned new =
     ((a : ℕ) × IsInputNamed old (tree_of_value atom) a × IsAssigned old.join a (value_of truth) new.join)
-    × (new.texts ≡ old.texts) × (new.names ≡ old.names)
+    × (new.texts ≡ old.texts) × (new.table ≡ old.table) × (new.names ≡ old.names)
 Answers old (Assign atom truth) no_effect new = ((a : ℕ) → ¬ IsInputNamed old (tree_of_value atom) a) × (new ≡ old)
 Answers old (Release atom) released new =
     ((a : ℕ) × IsInputNamed old (tree_of_value atom) a × IsReleased old.join a new.join)
-    × (new.texts ≡ old.texts) × (new.names ≡ old.names)
+    × (new.texts ≡ old.texts) × (new.table ≡ old.table) × (new.names ≡ old.names)
 Answers old (Release atom) no_effect new = ((a : ℕ) → ¬ IsInputNamed old (tree_of_value atom) a) × (new ≡ old)
 -- every set is tried, so no solve is cut
 Answers old (Solve asked limit assume) (solved ending count most listing) new =

@@ -11,7 +11,7 @@ use Rattle.ms_lits.specs.declared.note.Ending.TheVariants.{Complete, StillOpen, 
 use Rattle.ms_machine.specs.declared.reply.Reply.{Reply as kept_reply}
 use Rattle.ms_machine.specs.declared.reply.Reply.TheVariants.{Added, Grounded, Assigned, Released, NoEffect, Solved, Refused}
 use Rattle.ms_machine.specs.declared.reply.Refusal.{Refusal}
-use Rattle.ms_machine.specs.declared.reply.Refusal.TheVariants.{Command, Unfinished, Syntax, Const, Later, TooLarge, TooMany, Redefined, CrossLoop, RecursiveAggregate, Small}
+use Rattle.ms_machine.specs.declared.reply.Refusal.TheVariants.{Command, Unfinished, Syntax, Const, TooLarge, TooMany, Redefined, CrossLoop, RecursiveAggregate, Small}
 
 -- A reply. A listing has the terms of the shown atoms of each answer set.
 pub data Reply : Type 0 where
@@ -58,7 +58,6 @@ refusal_line Command = line (codes "refused command")
 refusal_line Unfinished = line (codes "refused unfinished")
 refusal_line (Syntax at) = line (codes "refused syntax " ++ decimal at)
 refusal_line (Const at) = line (codes "refused const " ++ decimal at)
-refusal_line Later = line (codes "refused later")
 refusal_line TooLarge = line (codes "refused too-large")
 refusal_line TooMany = line (codes "refused too-many")
 refusal_line (Redefined atom) = line (codes "refused redefined " ++ atom)

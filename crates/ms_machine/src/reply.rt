@@ -13,9 +13,7 @@ pub enum Refusal {
     Syntax { line: u64 },
     /// A constant is defined a second time, for the first time in this line.
     Const { line: u64 },
-    /// A core rule has an aggregate.
-    Later,
-    /// The grounding has more than 1,000,000 copies of rules, or an atom of more than 2,000 symbols.
+    /// The grounding has more than 1,000,000 copies of rules and elements, or an atom of more than 2,000 symbols.
     TooLarge,
     /// The join would have more than 4,000,000 things: atoms, bodies, tuples and aggregates.
     TooMany,

@@ -1,11 +1,13 @@
 -- What the parts of the test of a module find.
-use Rattle.std.specs.Prelude.{ℕ, ◌≡◌, ◌↔◌, List, Option, Some, None, Err, Any, Contains}
+use Rattle.std.specs.Prelude.{ℕ, ◌≡◌, ◌↔◌, ◌⊎◌, ◌<◌, ◌++◌, List, Option, Some, None, Err, Any, Contains}
 use Rattle.ms_tree.specs.Tree.{Tree}
 use Rattle.ms_join.specs.declared.ground_module.GroundModule.{GroundModule}
 use Rattle.ms_join.specs.declared.join_fault.JoinFault.{JoinFault}
+use Rattle.ms_join.specs.declared.join_fault.JoinFault.TheVariants.{CrossLoop as cross_loop, RecursiveAggregate}
 use Rattle.ms_join.specs.Modules.{Join, IsOutput}
-use Rattle.ms_join.specs.Composability.{Checks, IsComposable, IsInLoop, IsLeast, LoopsWith}
-use Rattle.ms_cone.specs.Cones.{Numbered, number_of}
+use Rattle.ms_join.specs.Composability.{Checks, IsComposable, IsLeast}
+use Rattle.ms_cone.specs.Cones.{IsCone, Numbered, number_of}
+use Rattle.ms_module.specs.Recursion.{IsHeadOverAggregate, IsRecursiveAmong}
 use Rattle.ms_module.specs.declared.loops.CrossLoop.{CrossLoop}
 
 -- the atoms of a list of which it holds
@@ -39,14 +41,27 @@ pub record IsInConeLoop (j : Join) (cone : Numbered) (heads : List ℕ) (a : ℕ
   pub head : Contains heads a
   pub loops : (b : ℕ) × LoopsInCone j cone a b
 
+-- a head of the module that is in the base before, or that depends on an atom through an aggregate
+abbrev pub IsStartOf : Join → GroundModule → ℕ → Type 0
+IsStartOf j m a = (Contains m.heads a × (a < j.atoms)) ⊎ IsHeadOverAggregate m.rules a
+
 abbrev pub FindsInCone : List Tree → Join → Numbered → List ℕ → Option CrossLoop → Type 0
 FindsInCone names j cone heads None = (a : ℕ) → ¬ IsInConeLoop j cone heads a
 FindsInCone names j cone heads (Some l) = IsLeast names (IsInConeLoop j cone heads) l.new_head × IsLeast names (LoopsInCone j cone l.new_head) l.old
 
--- the least loop across modules
-abbrev pub FindsLoop : List Tree → Join → GroundModule → Option CrossLoop → Type 0
-FindsLoop names j m None = (a : ℕ) → ¬ IsInLoop j m a
-FindsLoop names j m (Some l) = IsLeast names (IsInLoop j m) l.new_head × IsLeast names (LoopsWith j m l.new_head) l.old
+-- The cone has the components of the heads that are in the base before and of those that depend through aggregates. There is
+-- none where there are no such heads.
+abbrev pub IsConeOf : Join → GroundModule → Option Numbered → Type 0
+IsConeOf j m None = (a : ℕ) → ¬ IsStartOf j m a
+IsConeOf j m (Some cone) = (starts : List ℕ) × ((a : ℕ) → Contains starts a ↔ IsStartOf j m a) × IsCone (j.rules ++ m.rules) starts cone
+
+-- The least loop across modules in the cone, or else the least head that depends through an aggregate on an atom of its
+-- own component.
+abbrev pub FindsFault : List Tree → Join → GroundModule → Numbered → Option JoinFault → Type 0
+FindsFault names j m cone None = ((a : ℕ) → ¬ IsInConeLoop j cone m.heads a) × ((a : ℕ) → ¬ IsRecursiveAmong cone m.rules a)
+FindsFault names j m cone (Some (cross_loop a b)) = IsLeast names (IsInConeLoop j cone m.heads) a × IsLeast names (LoopsInCone j cone a) b
+FindsFault names j m cone (Some (RecursiveAggregate a)) = ((h : ℕ) → ¬ IsInConeLoop j cone m.heads h) × IsLeast names (IsRecursiveAmong cone m.rules) a
+FindsFault names j m cone (Some fault) = ⊥
 
 -- the first fault
 abbrev pub Finds : List Tree → Join → GroundModule → Option JoinFault → Type 0

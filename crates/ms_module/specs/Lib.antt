@@ -1,4 +1,5 @@
-pub mod Bodies
+pub mod Counts
+pub mod Recursion
 pub mod Faults
 pub mod Inputs
 pub mod Joins

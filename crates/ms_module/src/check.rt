@@ -1,17 +1,20 @@
 // The test whether a module can be joined.
-ghost use Rattle.std.specs.Prelude.{◌≡◌, ℕ, ◌+◌, ◌<◌, ◌↔◌, ◌++◌, All, length, IsTrue, IfOk, MatchOption};
-ghost use Rattle.ms_module.specs.Bodies.{ArePlain};
+ghost use Rattle.std.specs.Prelude.{◌≡◌, ℕ, ◌+◌, ◌<◌, ◌≤◌, ◌↔◌, ◌++◌, All, length, IsTrue, IfOk, MatchOption};
+ghost use Rattle.ms_join.specs.AnswerSets.{IsRuleOver};
+ghost use Rattle.ms_module.specs.Counts.{IsOrdered};
 ghost use Rattle.ms_join.specs.Composability.{Checks, HasTooMany, IsLeast, IsRedefined};
 ghost use Rattle.ms_join.specs.Modules.{IsOutput, IsWellFormed};
 ghost use Rattle.ms_module.specs.Names.{names_of};
-ghost use Rattle.ms_module.specs.Faults.{AreThose, Finds};
+ghost use Rattle.ms_module.specs.Faults.{AreThose, Finds, FindsFault};
 
 use crate::join::Join;
 use crate::least::least;
+use crate::recursion::recursive_heads;
 use ms_atombase::AtomBase;
 use ms_base::atom_id::AtomId;
 use ms_base::limits::MOST_THINGS;
 use ms_base::memory::OutOfMemory;
+use ms_cone::Cone;
 use ms_join::ground_module::GroundModule;
 use ms_join::ground_rule::GroundRule;
 use ms_join::join_fault::JoinFault;
@@ -55,12 +58,37 @@ impl Join {
         if let Some(atom) = redefined {
             return Ok(Some(JoinFault::Redefined { atom }));
         }
-        let found = self.cross_loop(terms, base, m)?;
-        match found {
-            Some(pair) => Ok(Some(JoinFault::CrossLoop {
+        match self.cone_of(base, m)? {
+            Some(cone) => self.fault_in(terms, base, m, &cone),
+            None => Ok(None),
+        }
+    }
+
+    /// The least loop across modules, or else the least recursive aggregate, in a cone that has the heads and outputs of
+    /// all of both.
+    fn fault_in(
+        &self,
+        terms: &Terms,
+        base: &AtomBase,
+        m: &GroundModule,
+        cone: &Cone,
+    ) -> Result<Option<JoinFault>, OutOfMemory>
+        requires named { All (λ t. t < length terms.now) base.now }
+        requires heads { All (λ a. a < length base.now) m.now.heads }
+        requires rules { All (IsRuleOver (length base.now)) m.now.rules }
+        requires base { self.now.atoms ≤ length base.now }
+        ensures { IfOk result (FindsFault (names_of terms.now base.now) self.now m.now cone.now) }
+    {
+        let found = self.loop_in(terms, base, m.heads.as_slice(), cone)?;
+        if let Some(pair) = found {
+            return Ok(Some(JoinFault::CrossLoop {
                 new_head: pair.new_head,
                 old: pair.old,
-            })),
+            }));
+        }
+        let recursive = recursive_heads(self.alloc, cone, m.rules.as_slice())?;
+        match least(terms, base, recursive.as_slice()) {
+            Some(atom) => Ok(Some(JoinFault::RecursiveAggregate { atom })),
             None => Ok(None),
         }
     }
@@ -85,12 +113,11 @@ impl Join {
 
     /// Whether there are more things than there may be with these rules and so many atoms.
     fn has_too_many(&self, atoms: u32, rules: &[GroundRule]) -> Result<bool, OutOfMemory>
-        requires { ArePlain rules.now }
-        ensures tells { IfOk result (λ many. IsTrue many ↔ HasTooMany atoms (self.now.rules ++ rules.now)) }
-        ensures plain { IfOk result (λ many. ArePlain (self.now.rules ++ rules.now)) }
+        requires { All IsOrdered rules.now }
+        ensures { IfOk result (λ many. IsTrue many ↔ HasTooMany atoms (self.now.rules ++ rules.now)) }
     {
-        let bodies = self.bodies.count_with(self.alloc, rules)?;
-        Ok(bodies.saturating_add(atoms as usize) > MOST_THINGS)
+        let things = self.things.count_with(self.alloc, rules)?;
+        Ok(things.saturating_add(atoms as usize) > MOST_THINGS)
     }
 
     /// The outputs among the atoms.

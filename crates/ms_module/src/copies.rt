@@ -33,7 +33,7 @@ fn copy_rule(alloc: Global, rule: &GroundRule) -> Result<GroundRule, OutOfMemory
     })
 }
 
-fn copy_aggregates(alloc: Global, aggs: &[SignedAgg]) -> Result<SignedAggs, OutOfMemory>
+pub(crate) fn copy_aggregates(alloc: Global, aggs: &[SignedAgg]) -> Result<SignedAggs, OutOfMemory>
     ensures { IfOk result (λ copies. copies ≡ aggs.now) }
 {
     let mut copies = Seq::with_capacity(alloc, aggs.len())?;
@@ -46,14 +46,19 @@ fn copy_aggregates(alloc: Global, aggs: &[SignedAgg]) -> Result<SignedAggs, OutO
 fn copy_signed(alloc: Global, signed: &SignedAgg) -> Result<SignedAgg, OutOfMemory>
     ensures { IfOk result (λ copy. copy ≡ signed.now) }
 {
-    let agg = GroundAgg {
-        function: signed.agg.function,
-        elements: copy_elements(alloc, signed.agg.elements.as_slice())?,
-        guards: Seq::copied(alloc, signed.agg.guards.as_slice())?,
-    };
     Ok(SignedAgg {
         negated: signed.negated,
-        agg,
+        agg: copy_aggregate(alloc, &signed.agg)?,
+    })
+}
+
+pub(crate) fn copy_aggregate(alloc: Global, agg: &GroundAgg) -> Result<GroundAgg, OutOfMemory>
+    ensures { IfOk result (λ copy. copy ≡ agg.now) }
+{
+    Ok(GroundAgg {
+        function: agg.function,
+        elements: copy_elements(alloc, agg.elements.as_slice())?,
+        guards: Seq::copied(alloc, agg.guards.as_slice())?,
     })
 }
 

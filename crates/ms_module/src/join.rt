@@ -6,11 +6,11 @@ ghost use Rattle.ms_join.specs.Composability.{IsComposable};
 ghost use Rattle.ms_join.specs.Modules.{IsInput, IsJoin, IsJoined, IsWellFormed, no_join, rules_of, value_of};
 ghost use Rattle.ms_join.specs.Possible.{IsPossible, cut};
 ghost use Rattle.ms_cone.specs.Dependencies.{Keeps};
-ghost use Rattle.ms_module.specs.Bodies.{AddsBodies};
+ghost use Rattle.ms_module.specs.Counts.{AddsThings};
 ghost use Rattle.ms_module.specs.Inputs.{AreInputs, Assigns, Releases};
 
-use crate::bodies::Bodies;
 use crate::state::State;
+use crate::things::Things;
 use ms_base::atom_id::AtomId;
 use ms_base::memory::OutOfMemory;
 use ms_base::truth::{Effect, Truth};
@@ -24,8 +24,8 @@ use std::marker::Model;
 #[derive(Drop)]
 pub struct Join {
     pub(crate) state: State,
-    /// The bodies of the rules.
-    pub(crate) bodies: Bodies,
+    /// The bodies, tuples and aggregates of the rules.
+    pub(crate) things: Things,
     pub(crate) dependencies: Dependencies,
     pub(crate) alloc: Global,
 }
@@ -38,7 +38,7 @@ impl Model for Join {
 
     ghost view = { λ j. j.state };
 
-    ghost invariant = { λ j. IsKept j.state j.bodies j.dependencies };
+    ghost invariant = { λ j. IsKept j.state j.things j.dependencies };
 }
 
 impl Join {
@@ -48,7 +48,7 @@ impl Join {
     {
         Join {
             state: State::new(alloc),
-            bodies: Bodies::new(alloc),
+            things: Things::new(alloc),
             dependencies: Dependencies::new(alloc),
             alloc,
         }
@@ -68,14 +68,14 @@ impl Join {
         match add_module(
             alloc,
             &mut self.state,
-            &mut self.bodies,
+            &mut self.things,
             &mut self.dependencies,
             m,
         ) {
             Ok(()) => Ok(()),
             Err(OutOfMemory) => {
                 self.state = State::new(alloc);
-                self.bodies = Bodies::new(alloc);
+                self.things = Things::new(alloc);
                 self.dependencies = Dependencies::new(alloc);
                 Err(OutOfMemory)
             }
@@ -127,7 +127,7 @@ impl Join {
 fn add_module(
     alloc: Global,
     state: &mut State,
-    bodies: &mut Bodies,
+    things: &mut Things,
     dependencies: &mut Dependencies,
     m: &GroundModule,
 ) -> Result<(), OutOfMemory>
@@ -136,10 +136,10 @@ fn add_module(
     requires inputs { All (λ i. i.atom < state.old.atoms) state.old.inputs }
     ensures joined { OnOk result (IsJoined state.old m.now state.new) }
     ensures inputs { OnOk result (AreInputs state.new) }
-    ensures bodies { OnOk result (AddsBodies bodies.old m.now.rules bodies.new) }
+    ensures things { OnOk result (AddsThings things.old m.now.rules things.new) }
     ensures uses { OnOk result ((before : List GroundRule) → Keeps dependencies.old before → Keeps dependencies.new (before ++ m.now.rules)) }
 {
-    bodies.add(alloc, m.rules.as_slice())?;
+    things.add(alloc, m.rules.as_slice())?;
     dependencies.add(m.rules.as_slice())?;
     state.add(m)
 }

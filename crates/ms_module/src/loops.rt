@@ -4,10 +4,11 @@ ghost use Rattle.ms_join.specs.Modules.{IsOutput, IsWellFormed};
 ghost use Rattle.ms_join.specs.Composability.{IsLeast};
 ghost use Rattle.ms_cone.specs.Cones.{number_of};
 ghost use Rattle.ms_module.specs.Names.{names_of};
-ghost use Rattle.ms_module.specs.Faults.{AreThose, AreNumbersOf, HasNumber, HasNumberAmong, LoopsInCone, FindsInCone, FindsLoop};
+ghost use Rattle.ms_module.specs.Faults.{AreThose, AreNumbersOf, HasNumber, HasNumberAmong, LoopsInCone, FindsInCone, IsConeOf};
 
 use crate::join::Join;
 use crate::least::least;
+use crate::recursion::add_heads_over_aggregates;
 use indexmap::IndexSet;
 use ms_atombase::AtomBase;
 use ms_base::atom_id::AtomId;
@@ -25,23 +26,23 @@ pub(crate) struct CrossLoop {
 }
 
 impl Join {
-    /// The least head in one component with an output, and the least such output, where there are such.
-    pub(crate) fn cross_loop(
+    /// The components of the heads that are in the base before, and of those that depend on an atom through an
+    /// aggregate, or none where there is no such head.
+    pub(crate) fn cone_of(
         &self,
-        terms: &Terms,
         base: &AtomBase,
         m: &GroundModule,
-    ) -> Result<Option<CrossLoop>, OutOfMemory>
+    ) -> Result<Option<Cone>, OutOfMemory>
         requires well_formed { IsWellFormed self.now.atoms m.now }
-        requires named { All (λ t. t < length terms.now) base.now }
         requires base { length base.now ≡ self.now.atoms + m.now.fresh }
-        ensures { IfOk result (FindsLoop (names_of terms.now base.now) self.now m.now) }
+        ensures { IfOk result (IsConeOf self.now m.now) }
     {
-        let starts = self.state.old_among(self.alloc, m.heads.as_slice())?;
+        let mut starts = self.state.old_among(self.alloc, m.heads.as_slice())?;
+        let rules = m.rules.as_slice();
+        add_heads_over_aggregates(rules, &mut starts)?;
         if starts.is_empty() {
             return Ok(None);
         }
-        let rules = m.rules.as_slice();
         let cone = Cone::around(
             self.alloc,
             &self.dependencies,
@@ -49,12 +50,11 @@ impl Join {
             base.len(),
             starts.as_slice(),
         )?;
-        let found = self.loop_in(terms, base, m.heads.as_slice(), &cone)?;
-        Ok(found)
+        Ok(Some(cone))
     }
 
-    /// The same, of a cone that has the heads and outputs of all loops.
-    fn loop_in(
+    /// The least head in one component with an output, and the least such output, where there are such in a cone.
+    pub(crate) fn loop_in(
         &self,
         terms: &Terms,
         base: &AtomBase,

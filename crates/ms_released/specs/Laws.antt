@@ -11,6 +11,7 @@ use Rattle.ms_join.specs.declared.ground_module.GroundModule.{GroundModule}
 use Rattle.ms_join.specs.AnswerSets.{IsAnswerSet}
 use Rattle.ms_join.specs.Composability.{IsComposable}
 use Rattle.ms_join.specs.Modules.{Join, rules_of}
+use Rattle.ms_copies.specs.Saying.{all_said}
 use Rattle.ms_copies.specs.Grounding.{IsHead}
 use Rattle.ms_solving.specs.Grounding.{core_of_calls}
 use Rattle.ms_solving.specs.Listing.{HasAtom, IsAnswer, tree_of_value}
@@ -55,7 +56,7 @@ ReleasedIsNeverListed =
 abbrev pub ReleasedIsNeverDefined : Type 0
 ReleasedIsNeverDefined =
     (atom : Value) (old new : State) (calls : List Call) (atoms count : ℕ) → WasReleased atom old → Answers old (Ground calls) (grounded atoms count) new
-    → ¬ IsHead (core_of_calls old.texts calls) (tree_of_value atom)
+    → ¬ IsHead (all_said (core_of_calls old.texts calls)) (tree_of_value atom)
 
 -- A released atom is never an input again.
 abbrev pub ReleasedIsNoInput : Type 0

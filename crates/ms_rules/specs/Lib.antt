@@ -1,4 +1,5 @@
 pub mod Flags
+pub mod Values
 pub mod LeastModel
 pub mod Room
 pub mod State

@@ -1,7 +1,8 @@
 // The test whether a set of atoms is an answer set.
-ghost use Rattle.std.specs.Prelude.{◌≡◌, ◌≤◌, ◌↔◌, [], IsTrue, All, length};
+ghost use Rattle.std.specs.Prelude.{◌≡◌, ◌≤◌, ◌↔◌, IsTrue, All, length};
 ghost use Rattle.ms_join.specs.AnswerSets.{Allows, AreRulesOver, IsAnswerSet, IsAtomSet, set_of};
 ghost use Rattle.ms_rules.specs.Flags.{flag_at};
+ghost use Rattle.ms_join.specs.Runs.{IsInOrder};
 ghost use Rattle.ms_rules.specs.Waiting.{IsSized};
 
 use crate::AtomSet;
@@ -14,7 +15,7 @@ use ms_join::ground_rule::{GroundKind, GroundRule, Rules};
 
 /// Whether the rule allows the set. A constraint doesn't where its body holds.
 fn allows(rule: &GroundRule, in_set: &[bool]) -> bool
-    requires { rule.now.aggs ≡ [] }
+    requires { All IsInOrder rule.now.aggs }
     ensures { IsTrue result ↔ Allows (flag_at in_set.now) rule.now.kind rule.now }
 {
     match rule.kind {
@@ -26,7 +27,7 @@ fn allows(rule: &GroundRule, in_set: &[bool]) -> bool
 }
 
 fn allows_each(rules: &[GroundRule], in_set: &[bool]) -> bool
-    requires { All (λ rule. rule.aggs ≡ []) rules.now }
+    requires { All (λ rule. All IsInOrder rule.aggs) rules.now }
     ensures { IsTrue result ↔ All (λ rule. Allows (flag_at in_set.now) rule.kind rule) rules.now }
 {
     rules.iter().all(|rule| allows(rule, in_set))

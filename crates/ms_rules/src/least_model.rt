@@ -1,8 +1,9 @@
 // The least model of the reduct of a join by a set, as a fixed point.
-ghost use Rattle.std.specs.Prelude.{◌≡◌, ◌<◌, [], All, length, MatchOption, MatchBool, IsTrue, ◌↔◌};
+ghost use Rattle.std.specs.Prelude.{◌≡◌, ◌<◌, All, length, MatchOption, MatchBool, IsTrue, ◌↔◌};
 ghost use Rattle.ms_join.specs.AnswerSets.{AreRulesOver, IsReductModel, Keeps};
 ghost use Rattle.ms_rules.specs.LeastModel.{AreMarked, AsksFor, IsFact, IsLeastModel, IsMarking, MayAsk, Progresses};
 ghost use Rattle.ms_rules.specs.Flags.{flag_at};
+ghost use Rattle.ms_join.specs.Runs.{IsInOrder};
 
 use crate::flags::{has_all, is_marked, side_holds};
 use ms_base::atom_id::AtomId;
@@ -32,7 +33,7 @@ pub(crate) fn may_ask(kind: GroundKind, in_set: &[bool], head: AtomId) -> bool
 
 /// The head that the rule asks for and that isn't marked yet.
 fn missing_head(rule: &GroundRule, in_set: &[bool], derived: &[bool]) -> Option<AtomId>
-    requires { rule.now.aggs ≡ [] }
+    requires { All IsInOrder rule.now.aggs }
     ensures { MatchOption result
         (Keeps (flag_at in_set.now) (flag_at derived.now) rule.now.kind rule.now)
         (AsksFor (flag_at in_set.now) (flag_at derived.now) rule.now) }

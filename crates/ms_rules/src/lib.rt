@@ -1,6 +1,7 @@
 // Ground rules and inputs, and the test whether a set of atoms is an answer set.
 #![tactic(auto)]
 
+mod aggregates;
 mod answer_test;
 mod flags;
 mod least_model;

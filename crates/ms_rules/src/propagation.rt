@@ -5,6 +5,7 @@
 ghost use Rattle.std.specs.Prelude.{ℕ, ◌≡◌, ◌+◌, ◌-◌, ◌<◌, ◌≤◌, All, ◌⊎◌, [], true, false, length, sum, slice_index, IfOk, MatchOption, MatchBool, IsTrue};
 ghost use Rattle.ms_join.specs.AnswerSets.{AreRulesOver, IsReductModel, Keeps};
 ghost use Rattle.ms_rules.specs.Flags.{flag_at};
+ghost use Rattle.ms_join.specs.Runs.{IsInOrder};
 ghost use Rattle.ms_rules.specs.LeastModel.{AreMarked, IsLeastModel};
 ghost use Rattle.ms_rules.specs.State.{looked, marked, popped, pushed};
 ghost use Rattle.ms_rules.specs.Waiting.{AllWait, AreWaiting, AsksNothing, Continues, IsNoModel, IsSized, IsSound, IsStuck, IsWaitedForByNone, LooksFurther, Requires, body_at};
@@ -19,7 +20,7 @@ use std::marker::Model;
 
 /// The head that the rule asks for where its positive atoms are there.
 fn required_head(rule: &GroundRule, in_set: &[bool]) -> Option<AtomId>
-    requires { rule.now.aggs ≡ [] }
+    requires { All IsInOrder rule.now.aggs }
     ensures { MatchOption result
         (AsksNothing (flag_at in_set.now) rule.now)
         (Requires (flag_at in_set.now) rule.now) }

@@ -29,7 +29,7 @@ pub record Kept : Type 0 where
 
 -- the state of the machine, where these are the terms by their names
 abbrev pub state_by : List Tree → Texts → List ℕ → Join → State
-state_by table texts base join = record { texts = texts; names = map (term_at table) base; join = join; things = []; kept = [] }
+state_by table texts base join = record { texts = texts; table = table; names = map (term_at table) base; join = join; things = []; kept = [] }
 
 -- the state of the machine that the session stands for
 abbrev pub state_of : Kept → State

@@ -2,7 +2,7 @@
 ghost use Rattle.std.specs.Prelude.{◌≡◌, ◌<◌, ◌++◌, All, IfOk, OnOk, length, map};
 ghost use Rattle.ms_call.specs.declared.command.Command.TheVariants.{Ground};
 ghost use Rattle.ms_session.specs.Joining.{AreAtomsOf, IsRefusalOf, IsGrownBase, JoinsAs, StaysWhereRefused};
-ghost use Rattle.ms_session.specs.Opened.{IsStep, IsWhole, names_of};
+ghost use Rattle.ms_session.specs.Opened.{GroundsAs, IsStep, IsWhole, names_of};
 
 use crate::open_session::Open;
 use ms_atombase::Mark;
@@ -33,7 +33,7 @@ impl Open {
     /// The same, but where it is refused the table may have new terms.
     fn ground_and_join(&mut self, alloc: Global, calls: &Calls) -> Result<Reply, OutOfMemory>
         requires { IsWhole self.old }
-        ensures step { IfOk result (IsStep self.old (Ground calls.now) self.new) }
+        ensures step { IfOk result (GroundsAs self.old calls.now self.new) }
         ensures back { IfOk result (StaysWhereRefused self.old.base self.old.join self.new.base self.new.join) }
         ensures texts { self.new.parts ≡ self.old.parts }
     {
@@ -46,7 +46,6 @@ impl Open {
             calls,
         ) {
             Ok(ground_module) => ground_module,
-            Err(GroundFault::Later) => return Ok(Reply::Refused(Refusal::Later)),
             Err(GroundFault::TooLarge) => return Ok(Reply::Refused(Refusal::TooLarge)),
             Err(GroundFault::OutOfMemory) => return Err(OutOfMemory),
         };

@@ -68,7 +68,6 @@ fn print_refusal(refusal: &Refusal, into: &mut Vec<u8>) -> Result<(), OutOfMemor
         Refusal::Unfinished => put(b"refused unfinished\n", into),
         Refusal::Syntax { line } => print_counted("refused syntax ", *line, into),
         Refusal::Const { line } => print_counted("refused const ", *line, into),
-        Refusal::Later => put(b"refused later\n", into),
         Refusal::TooLarge => put(b"refused too-large\n", into),
         Refusal::TooMany => put(b"refused too-many\n", into),
         Refusal::Redefined { atom } => print_named(b"refused redefined ", atom.as_slice(), into),

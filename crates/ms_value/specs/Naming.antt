@@ -1,13 +1,9 @@
 -- Values under the names that a table gives them.
-use Rattle.std.specs.Prelude.{ℕ, ◌≡◌, ◌<◌, ◌≤◌, List, Option, Some, None, MatchOption, Vec, length}
+use Rattle.std.specs.Prelude.{ℕ, ◌≡◌, ◌<◌, List, Option, Some, None, MatchOption, Vec, length}
 use Rattle.std.specs.Global.{Global}
 use Rattle.ms_tree.specs.Tree.{Tree, Trees}
 use Rattle.ms_term.specs.Terms.{term_at, terms_at, AllBelow}
-
--- Each name of the old table stands for what it stood for.
-pub record Keeps (old new : List Tree) : Type 0 where
-  pub longer : length old ≤ length new
-  pub kept : (i : ℕ) → i < length old → term_at new i ≡ term_at old i
+pub use Rattle.ms_copies.specs.Naming.{Keeps}
 
 -- The name of the value in the new table, or none exactly where there is no value.
 pub record Gives (old new : List Tree) (v : Option Tree) (name : Option ℕ) : Type 0 where

@@ -1,5 +1,5 @@
 -- What a walk over choices has still to go through.
-use Rattle.std.specs.Prelude.{ℕ, ◌≡◌, ◌+◌, ◌<◌, ◌≤◌, ◌⊎◌, ℤ, pos, ◌+ℤ◌, ◌≤ℤ◌, ◌<ℤ◌, Bool, true, false, List, [], ◌∷◌, ◌++◌, map, flat_map, sum_by, length, drop, Option, Some, None}
+use Rattle.std.specs.Prelude.{ℕ, ◌≡◌, ◌+◌, ◌-◌, ◌<◌, ◌≤◌, ◌⊎◌, ℤ, pos, ◌+ℤ◌, ◌≤ℤ◌, ◌<ℤ◌, Bool, true, false, List, [], ◌∷◌, ◌++◌, map, flat_map, sum_by, length, drop, take, Option, Some, None}
 use Rattle.ms_core.specs.declared.rule.Range.{Range}
 use Rattle.ms_copies.specs.Evaluating.{Chosen}
 use Rattle.ms_copies.specs.InOrder.{integers, integers_within, choices}
@@ -35,37 +35,51 @@ turns_around (range ∷ ranges) before (n ∷ ns) [] below = 0
 turns_around (range ∷ ranges) before (n ∷ ns) (high ∷ highs) below =
     turns_around ranges (before ++ n ∷ []) ns highs below + (1 + turns_with ranges before (integers (n +ℤ pos 1) high))
 
-abbrev pub below_of : Bool → List Range → Chosen → List Chosen
-below_of true ranges chosen = choices (drop (length chosen) ranges) chosen
-below_of false ranges chosen = []
+-- how many of the chosen integers stay
+abbrev pub staying : Place → ℕ
+staying p = length p.chosen.items - length p.highs.items
 
-abbrev pub turns_below : Bool → List Range → Chosen → ℕ
-turns_below true ranges chosen = turns (drop (length chosen) ranges) chosen
-turns_below false ranges chosen = 0
+-- the integers that stay, and those that are chosen for ranges of the walk
+abbrev pub before_of : Place → Chosen
+before_of p = take (staying p) p.chosen.items
+
+abbrev pub own_of : Place → Chosen
+own_of p = drop (staying p) p.chosen.items
+
+abbrev pub below_of : Bool → List Range → Chosen → Chosen → List Chosen
+below_of true ranges before own = choices (drop (length own) ranges) (before ++ own)
+below_of false ranges before own = []
+
+abbrev pub turns_below : Bool → List Range → Chosen → Chosen → ℕ
+turns_below true ranges before own = turns (drop (length own) ranges) (before ++ own)
+turns_below false ranges before own = 0
 
 -- The choices that are left at a place, and how many turns it takes to walk them.
 abbrev pub left_at : List Range → Place → List Chosen
-left_at ranges p = around ranges [] p.chosen.items p.highs.items (below_of p.is_fresh ranges p.chosen.items)
+left_at ranges p = around ranges (before_of p) (own_of p) p.highs.items (below_of p.is_fresh ranges (before_of p) (own_of p))
 
 abbrev pub turns_at : List Range → Place → ℕ
-turns_at ranges p = turns_around ranges [] p.chosen.items p.highs.items (turns_below p.is_fresh ranges p.chosen.items)
+turns_at ranges p = turns_around ranges (before_of p) (own_of p) p.highs.items (turns_below p.is_fresh ranges (before_of p) (own_of p))
 
 pub record IsPlace (ranges : List Range) (p : Place) : Type 0 where
-  pub ends : length p.chosen.items ≡ length p.highs.items
-  pub within : length p.chosen.items ≤ length ranges
+  pub ends : length p.highs.items ≤ length p.chosen.items
+  pub within : length p.highs.items ≤ length ranges
 
 -- The same choices are left, and it takes fewer turns to walk them.
 pub record HasMoved (ranges : List Range) (old new : Place) : Type 0 where
   pub place : IsPlace ranges new
+  pub stays : before_of new ≡ before_of old
   pub same : left_at ranges new ≡ left_at ranges old
   pub fewer : turns_at ranges new < turns_at ranges old
 
 pub record HasFound (ranges : List Range) (old new : Place) : Type 0 where
   pub place : IsPlace ranges new
-  pub first : left_at ranges old ≡ new.chosen.items ∷ left_at ranges new
+  pub stays : before_of new ≡ before_of old
+  pub first : left_at ranges old ≡ own_of new ∷ left_at ranges new
 
 pub record HasEnded (ranges : List Range) (old new : Place) : Type 0 where
   pub place : IsPlace ranges new
+  pub stays : before_of new ≡ before_of old
   pub none : left_at ranges old ≡ []
   pub still_none : left_at ranges new ≡ []
 
@@ -76,8 +90,8 @@ IsTurn ranges old new Ended = HasEnded ranges old new
 
 -- No more ranges are chosen for than before, and each still has an upper end.
 pub record IsNoLonger (old new : Place) : Type 0 where
-  pub ends : length old.chosen.items ≡ length old.highs.items → length new.chosen.items ≡ length new.highs.items
-  pub within : length new.chosen.items ≤ length old.chosen.items
+  pub ends : length old.highs.items ≤ length old.chosen.items → length new.highs.items ≤ length new.chosen.items
+  pub within : length new.highs.items ≤ length old.highs.items
 
 -- The integer is chosen for one more range, which has this upper end.
 pub record Chooses (old new : Place) (n high : ℤ) : Type 0 where
@@ -128,8 +142,8 @@ pub record GivesUp (old new : Place) (last high : ℤ) : Type 0 where
 
 -- No range is left to be chosen for.
 pub record IsAtEnd (old new : Place) : Type 0 where
-  pub was : (old.chosen.items ≡ []) ⊎ (old.highs.items ≡ [])
-  pub chosen : length new.chosen.items ≤ length old.chosen.items
+  pub was : (old.highs.items ≡ []) ⊎ (old.chosen.items ≡ [])
+  pub chosen : new.chosen.items ≡ old.chosen.items
   pub highs : length new.highs.items ≤ length old.highs.items
   pub spent : new.is_fresh ≡ old.is_fresh
 
@@ -138,14 +152,20 @@ Leaves old new Moved = ((first : List ℤ) × (highs : List ℤ) × (last : ℤ)
 Leaves old new Found = ⊥
 Leaves old new Ended = IsAtEnd old new
 
--- The choice at which a walk stands, and those that are left after it.
+-- The integers that stay, the choice at which a walk stands behind them, and those that are left after it.
 pub record Walked : Type 0 where
+  pub before : Chosen
   pub chosen : Chosen
   pub left : List Chosen
 
 abbrev pub walked : List Range → Place → Walked
-walked ranges p = record { chosen = p.chosen.items; left = left_at ranges p }
+walked ranges p = record { before = before_of p; chosen = own_of p; left = left_at ranges p }
+
+-- The walk has all these choices before it, behind these integers.
+pub record IsAtStart (before : Chosen) (all : List Chosen) (w : Walked) : Type 0 where
+  pub stays : w.before ≡ before
+  pub left : w.left ≡ all
 
 abbrev pub IsNext : Walked → Walked → Bool → Type 0
-IsNext old new true = old.left ≡ new.chosen ∷ new.left
-IsNext old new false = (old.left ≡ []) × (new.left ≡ [])
+IsNext old new true = (new.before ≡ old.before) × (old.left ≡ new.chosen ∷ new.left)
+IsNext old new false = (new.before ≡ old.before) × (old.left ≡ []) × (new.left ≡ [])

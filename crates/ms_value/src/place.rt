@@ -7,12 +7,14 @@ use crate::integers::ends;
 use ms_core::rule::Range;
 use ms_term::OutOfMemory;
 
-/// The integers that are chosen for the first ranges, the upper ends of these ranges, and whether the choices
-/// that begin so are still to be walked.
+/// Where a walk stands.
 #[derive(Drop)]
 pub(crate) struct Place {
+    /// The integers with which each choice begins, and then those that are chosen for the first ranges of the walk.
     pub chosen: Vec<i64>,
+    /// The upper ends of these ranges.
     pub highs: Vec<i64>,
+    /// Whether the choices that begin so are still to be walked.
     pub is_fresh: bool,
 }
 
@@ -36,7 +38,7 @@ pub(crate) fn take_turn(ranges: &[Range], place: &mut Place) -> Result<Turn, Out
     if !place.is_fresh {
         return leave(place);
     }
-    match ranges.get(place.chosen.len()) {
+    match ranges.get(place.highs.len()) {
         Some(range) => {
             enter(range, place)?;
             Ok(Turn::Moved)
@@ -75,7 +77,10 @@ fn leave(place: &mut Place) -> Result<Turn, OutOfMemory>
     ensures ok { IfOk result (Leaves place.old place.new) }
     ensures err { OnErr result (IsNoLonger place.old place.new) }
 {
-    let (Some(last), Some(high)) = (place.chosen.pop(), place.highs.pop()) else {
+    let Some(high) = place.highs.pop() else {
+        return Ok(Turn::Ended);
+    };
+    let Some(last) = place.chosen.pop() else {
         return Ok(Turn::Ended);
     };
     if last < high {

@@ -1,0 +1,17 @@
+// Runs of elements with one tuple.
+ghost use Rattle.std.specs.Prelude.{◌<◌, length};
+ghost use Rattle.ms_join.specs.Runs.{IsRun};
+
+use crate::aggregate::GroundElement;
+
+/// Where the elements end that have the tuple of the one in this place and follow it.
+pub fn run_end(elements: &[GroundElement], first: usize) -> usize
+    requires { first < length elements.now }
+    ensures { IsRun elements.now first result }
+{
+    let mut end = first + 1;
+    while end < elements.len() && elements[end].tuple == elements[first].tuple {
+        end += 1;
+    }
+    end
+}
