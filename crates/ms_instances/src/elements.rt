@@ -29,7 +29,7 @@ pub(crate) fn aggregates_of(
     ensures room { IfOk result (λ list. room.old ≡ room.new + elements_said (all_with_guards chosen.now aggs.now (map (guards_by terms.old) guards))) }
     ensures err { IfErr result (Refuses terms.old terms.new room.old (elements_said (all_with_guards chosen.now aggs.now (map (guards_by terms.old) guards)))) }
 {
-    let mut list = Vec::with_capacity(alloc, aggs.len())?;
+    let mut list = Vec::new(alloc);
     for (agg, guards) in aggs.iter().zip(guards.into_vec()) {
         let elements = elements_of(alloc, terms, agg.elements.as_slice(), chosen, room)?;
         list.push(InstanceAgg {
