@@ -1,5 +1,5 @@
 // Runs of elements with one tuple.
-ghost use Rattle.std.specs.Prelude.{◌<◌, length};
+ghost use Rattle.std.specs.Prelude.{◌≡◌, ◌≢◌, ◌<◌, IsTrue, false, length};
 ghost use Rattle.ms_join.specs.Runs.{IsRun};
 
 use crate::aggregate::GroundElement;
@@ -10,8 +10,15 @@ pub fn run_end(elements: &[GroundElement], first: usize) -> usize
     ensures { IsRun elements.now first result }
 {
     let mut end = first + 1;
-    while end < elements.len() && elements[end].tuple == elements[first].tuple {
+    while end < elements.len() && has_same_tuple(&elements[end], &elements[first]) {
         end += 1;
     }
     end
+}
+
+fn has_same_tuple(one: &GroundElement, other: &GroundElement) -> bool
+    ensures same { IsTrue result → one.now.tuple ≡ other.now.tuple }
+    ensures different { result ≡ false → one.now.tuple ≢ other.now.tuple }
+{
+    one.tuple == other.tuple
 }
