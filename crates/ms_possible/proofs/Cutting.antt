@@ -12,7 +12,7 @@ use Rattle.ms_join.specs.declared.ground_rule.GroundKind.{GroundKind}
 use Rattle.ms_join.specs.declared.ground_rule.GroundKind.TheVariants.{Normal, Choice, Constraint}
 use Rattle.ms_join.specs.declared.ground_rule.GroundRule.{GroundRule}
 use Rattle.ms_join.specs.Aggregates.{aggregate_holds, element_holds, guards_hold, has_tuple, signed_holds, tuple_holds, value_by}
-use Rattle.ms_join.specs.AnswerSets.{Allows, Keeps, has_all, has_none, side_holds}
+use Rattle.ms_join.specs.AnswerSets.{Allows, IsElementOver, IsRuleOver, Keeps, has_all, has_none, side_holds}
 use Rattle.ms_join.specs.Possible.{cut}
 
 -- The condition of the element speaks of the atoms below n.
@@ -44,9 +44,11 @@ below_more n m rule more is = record {
       record { pos = all_below_more n m element.pos more below.pos; neg = all_below_more n m element.neg more below.neg };
 }
 
--- a rule without aggregates
-pub plain_below : (n : ℕ) (rule : GroundRule) → rule.aggs ≡ [] → All (IsSignedBelow n) rule.aggs
-plain_below n rule plain = subst (λ (ss : List SignedAgg). All (IsSignedBelow n) ss) (sym plain) (λ k d within. absurd (omega arith))
+-- the aggregates of a rule over the atoms below n
+pub signed_below : (n : ℕ) (rule : GroundRule) → IsRuleOver n rule → All (IsSignedBelow n) rule.aggs
+signed_below n rule over k d within i e inside =
+    let element : IsElementOver n (get_or (get_or rule.aggs k d).agg.elements i e) = (over.aggs k d within).elements i e inside in
+    record { pos = element.pos; neg = element.neg }
 
 -- ---- the cut
 

@@ -13,7 +13,7 @@ use Rattle.ms_join.specs.Composability.{IsComposable}
 use Rattle.ms_join.specs.Modules.{Join, IsInput, IsJoined, IsWellFormed, rules_of}
 use Rattle.ms_possible.proofs.Inputs.{input_from, input_of}
 use Rattle.ms_join.specs.Possible.{IsPossible, cut}
-use Rattle.ms_possible.proofs.Cutting.{IsBelow, all_more, cut_allows, cut_keeps, from_cut, if_some, in_cut, plain_below, same_side}
+use Rattle.ms_possible.proofs.Cutting.{IsBelow, all_more, cut_allows, cut_keeps, from_cut, if_some, in_cut, same_side, signed_below}
 use Rattle.ms_possible.proofs.FreeSets.{IsFreeSet, free_from_possible, possible_from_free}
 use Rattle.ms_possible.proofs.Lists.{All-back, All-front}
 
@@ -144,7 +144,7 @@ head_below n Choice (Some a) has h at = let same : a ≡ h = cc in subst (λ b. 
 head_below n Constraint head has h at = cc
 
 below_from_over : (n : ℕ) (rule : GroundRule) → IsRuleOver n rule → IsBelow n rule
-below_from_over n rule is = record { head = head_below n rule.kind rule.head is.head; pos = is.pos; neg = is.neg; aggs = plain_below n rule is.plain }
+below_from_over n rule is = record { head = head_below n rule.kind rule.head is.head; pos = is.pos; neg = is.neg; aggs = signed_below n rule is }
 
 headed_at : (heads : List ℕ) (head : Option ℕ) → IfSome head (Contains heads) → (h : ℕ) → head ≡ Some h → Contains heads h
 headed_at heads None among h at = cc

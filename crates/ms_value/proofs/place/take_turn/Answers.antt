@@ -11,7 +11,7 @@ returns-then-not-place-clause-ok c =
 
 pub returns-in_ok-enter-in-Some-clause-ok : goal.returns-in_ok-enter-in-Some-clause-ok
 returns-in_ok-enter-in-Some-clause-ok c =
-    let at : c.len.result ≡ length c.args.place.now.chosen.items = search (rules, c.len.ensures) in
+    let at : c.len.result ≡ length c.args.place.now.highs.items = search (rules, c.len.ensures) in
     moved_in c.args.ranges.now c.args.place.now c.enter.new.place c.in-Some.range.now c.requires c.if-not-place.false
     (subst (λ (k : ℕ). k < length c.args.ranges.now) at c.in-Some.ensures.lookup.3.0)
     (subst (λ (k : ℕ). c.in-Some.range.now ≡ get_or c.args.ranges.now k c.in-Some.range.now) at c.in-Some.ensures.lookup.1)
@@ -19,6 +19,6 @@ returns-in_ok-enter-in-Some-clause-ok c =
 
 pub returns-in-None-clause-ok : goal.returns-in-None-clause-ok
 returns-in-None-clause-ok c =
-    let at : c.len.result ≡ length c.args.place.now.chosen.items = search (rules, c.len.ensures) in
+    let at : c.len.result ≡ length c.args.place.now.highs.items = search (rules, c.len.ensures) in
     found c.args.ranges.now c.args.place.now (record { chosen = c.args.place.now.chosen; highs = c.args.place.now.highs; is_fresh = false }) c.requires c.if-not-place.false
     (subst (λ (k : ℕ). length c.args.ranges.now ≤ k) at c.in-None.ensures.lookup.3) refl refl refl
