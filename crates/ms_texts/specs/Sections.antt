@@ -1,16 +1,22 @@
 -- Texts as sections: the statements that stand under one `#program`.
-use Rattle.std.specs.Prelude.{codes, zero, suc, ◌≡◌, ℕ, ◌+◌, ◌==◌, nat_eq, if◌then◌else◌, List, [], ◌∷◌, ◌++◌, map, length, Option, Some, None, slice_get, Vec}
+use Rattle.std.specs.Prelude.{codes, zero, suc, ◌≡◌, ℕ, ◌+◌, nat_eq, if◌then◌else◌, List, [], ◌∷◌, ◌++◌, map, Option, Some, None, slice_get, Vec}
 use Rattle.std.specs.List.{flat_map, filter_map}
 use Rattle.std.specs.Map.{lookup}
 use Rattle.std.specs.Cmp.Lexicographic.{pointwise}
 use Rattle.ms_grammar.specs.declared.term.TextTerm.{TextTerm, Function}
 use Rattle.ms_grammar.specs.declared.statement.Form.{Form}
-use Rattle.ms_core.specs.Texts.{PartName, is_name, said_of, part_after}
+use Rattle.ms_core.specs.Texts.{PartName, is_part, said_of, part_after}
+use Rattle.indexmap.specs.IndexMap.{IndexMap}
+use Rattle.ms_texts.specs.declared.section.Heading.{Heading}
 use Rattle.ms_texts.specs.declared.section.Section.{Section}
+
+-- the part of a heading
+abbrev pub named : Heading → PartName
+named h = record { name = h.name; params = h.params }
 
 -- the part of a section
 abbrev pub part_of : Section → PartName
-part_of s = record { name = s.name; params = s.params }
+part_of s = named s.heading.value
 
 -- the statements of a section, each with its part
 abbrev pub said_in : Section → List (PartName × Form)
@@ -30,10 +36,10 @@ GoesOn done here form longer next =
 abbrev pub silent : Section → Section
 silent s = record s { forms = [] }
 
--- the places of the sections with a name, where the first one stands at i
-unfoldable pub places_from : List ℕ → ℕ → List Section → List ℕ
-places_from name i [] = []
-places_from name i (s ∷ ss) = if is_name s.name name then i ∷ places_from name (i + 1) ss else places_from name (i + 1) ss
+-- the places of the sections of a part, where the first one stands at i
+unfoldable pub places_from : List ℕ → ℕ → ℕ → List Section → List ℕ
+places_from name count i [] = []
+places_from name count i (s ∷ ss) = if is_part name count (part_of s) then i ∷ places_from name count (i + 1) ss else places_from name count (i + 1) ss
 
 abbrev pub items_or_none : {A : Type 0} → Option (Vec ℕ A) → List ℕ
 items_or_none None = []
@@ -43,18 +49,21 @@ items_or_none (Some v) = v.items
 abbrev pub places_in : {A : Type 0} → List ℕ → List (Vec ℕ A × Vec ℕ A) → List ℕ
 places_in name entries = items_or_none (lookup (λ key. pointwise nat_eq name key.items) entries)
 
--- an index of sections by their names
-abbrev pub Indexes : {A : Type 0} → List (Vec ℕ A × Vec ℕ A) → List Section → Type 0
-Indexes entries sections = (name : List ℕ) → places_in name entries ≡ places_from name 0 sections
+abbrev pub entries_or_none : {A S : Type 0} → Option (IndexMap (Vec ℕ A) (Vec ℕ A) S) → List (Vec ℕ A × Vec ℕ A)
+entries_or_none None = []
+entries_or_none (Some m) = m.entries
 
--- The section, where it has so many parameters.
-abbrev pub counted : ℕ → Option Section → Option Section
-counted count None = None
-counted count (Some s) = if length s.params == count then Some s else None
+-- the places that an index has for a name and a number of parameters
+abbrev pub part_places : {A S : Type 0} → List ℕ → ℕ → List (ℕ × IndexMap (Vec ℕ A) (Vec ℕ A) S) → List ℕ
+part_places name count counts = places_in name (entries_or_none (lookup (nat_eq count) counts))
 
--- the sections at places that have so many parameters
-abbrev pub sections_at : ℕ → List Section → List ℕ → List Section
-sections_at count sections places = filter_map (λ place. counted count (slice_get sections place)) places
+-- an index of sections by their names and numbers of parameters
+abbrev pub Indexes : {A S : Type 0} → List (ℕ × IndexMap (Vec ℕ A) (Vec ℕ A) S) → List Section → Type 0
+Indexes counts sections = (name : List ℕ) (count : ℕ) → part_places name count counts ≡ places_from name count 0 sections
+
+-- the sections at places
+abbrev pub sections_at : List Section → List ℕ → List Section
+sections_at sections places = filter_map (slice_get sections) places
 
 -- the constant `t`
 abbrev pub constant_t : TextTerm

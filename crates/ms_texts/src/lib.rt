@@ -4,6 +4,7 @@
 mod constants;
 mod duplicate;
 mod fault;
+mod params;
 mod part_sections;
 mod places;
 mod section;
@@ -17,6 +18,7 @@ pub use fault::TextFault;
 pub use ms_base::memory::OutOfMemory;
 pub use ms_grammar::statement::Statements;
 pub use ms_grammar::value::Value;
+pub use params::Params;
 pub use part_sections::PartSections;
-pub use section::Section;
+pub use section::{Heading, Section};
 pub use texts::Texts;

@@ -1,6 +1,6 @@
 // The sections of one part.
-ghost use Rattle.std.specs.Prelude.{◌≡◌, ◌∷◌, [], MatchOption, option_copied, slice_get};
-ghost use Rattle.ms_texts.specs.Sections.{counted, sections_at};
+ghost use Rattle.std.specs.Prelude.{◌≡◌, ◌∷◌, [], MatchOption};
+ghost use Rattle.ms_texts.specs.Sections.{sections_at};
 
 use crate::section::Section;
 use std::marker::Model;
@@ -10,7 +10,6 @@ use std::marker::Model;
 pub struct PartSections<'a> {
     sections: &'a [Section],
     places: &'a [usize],
-    count: usize,
 }
 
 impl<'a> Model for PartSections<'a> {
@@ -25,23 +24,15 @@ impl<'a> Model for PartSections<'a> {
 
     ghost coded = { Prim.hlevel (codes, term.the_row.coded, value.the_row.coded) };
 
-    ghost view = { λ p. sections_at p.count p.sections.now p.places.now };
+    ghost view = { λ p. sections_at p.sections.now p.places.now };
 }
 
 impl<'a> PartSections<'a> {
-    /// Those of the sections at these places that have so many parameters.
-    pub(crate) fn new(
-        sections: &'a [Section],
-        places: &'a [usize],
-        count: usize,
-    ) -> PartSections<'a>
-        ensures { result ≡ sections_at count sections.now places.now }
+    /// The sections at these places.
+    pub(crate) fn new(sections: &'a [Section], places: &'a [usize]) -> PartSections<'a>
+        ensures { result ≡ sections_at sections.now places.now }
     {
-        PartSections {
-            sections,
-            places,
-            count,
-        }
+        PartSections { sections, places }
     }
 }
 
@@ -60,7 +51,7 @@ impl<'a> Iterator for PartSections<'a> {
         let mut places = self.places;
         while let Some((place, after)) = split_first(places) {
             places = after;
-            if let Some(section) = counted(self.sections, place, self.count) {
+            if let Some(section) = self.sections.get(place) {
                 self.places = places;
                 return Some(section);
             }
@@ -77,17 +68,5 @@ fn split_first(places: &[usize]) -> Option<(usize, &[usize])>
     match places {
         [] => None,
         [place, after @ ..] => Some((*place, after)),
-    }
-}
-
-/// The section at a place, where it has so many parameters.
-fn counted<'a>(sections: &'a [Section], place: usize, count: usize) -> Option<&'a Section>
-    ensures { option_copied result ≡ counted count (slice_get sections.now place) }
-{
-    let section = sections.get(place)?;
-    if section.params.len() == count {
-        Some(section)
-    } else {
-        None
     }
 }

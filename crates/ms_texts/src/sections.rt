@@ -1,11 +1,11 @@
-// The sections of all texts, with an index by their names.
+// The sections of all texts, with an index by their names and numbers of parameters.
 ghost use Rattle.std.specs.Prelude.{◌≡◌, ◌≤◌, [], ◌∷◌, ◌++◌, length, take, OnOk, OnErr};
 ghost use Rattle.std.specs.List.{filter};
 ghost use Rattle.ms_core.specs.Texts.{is_part};
 ghost use Rattle.ms_texts.specs.Sections.{said_by, silenced, Indexes};
 
 use crate::part_sections::PartSections;
-use crate::places::{Places, note, places_of};
+use crate::places::{PartPlaces, note_part, part_places};
 use crate::section::Section;
 use indexmap::IndexMap;
 use ms_base::memory::OutOfMemory;
@@ -13,12 +13,12 @@ use ms_base::seq::Seq;
 use std::alloc::Global;
 use std::marker::Model;
 
-/// Sections in the order of the texts. One look-up finds those of a name. Contracts see the statements, each with
+/// Sections in the order of the texts. Two look-ups find those of a part. Contracts see the statements, each with
 /// its part.
 #[derive(Drop)]
 pub(crate) struct Sections {
     list: Vec<Section>,
-    places: Places,
+    places: PartPlaces,
 }
 
 impl Model for Sections {
@@ -68,7 +68,10 @@ impl Sections {
     pub fn part(&self, name: &[u8], count: usize) -> PartSections<'_>
         ensures { said_by result ≡ filter (λ statement. is_part name.now count statement.0) self.now }
     {
-        PartSections::new(self.list.as_slice(), places_of(&self.places, name), count)
+        PartSections::new(
+            self.list.as_slice(),
+            part_places(&self.places, name, count),
+        )
     }
 }
 
@@ -76,7 +79,7 @@ impl Sections {
 fn add_each(
     alloc: Global,
     list: &mut Vec<Section>,
-    places: &mut Places,
+    places: &mut PartPlaces,
     made: Vec<Section>,
 ) -> Result<(), OutOfMemory>
     requires { Indexes places.old.entries list.old.items }
@@ -94,7 +97,7 @@ fn add_each(
 fn add(
     alloc: Global,
     list: &mut Vec<Section>,
-    places: &mut Places,
+    places: &mut PartPlaces,
     section: Section,
 ) -> Result<(), OutOfMemory>
     requires { Indexes places.old.entries list.old.items }
@@ -103,7 +106,8 @@ fn add(
     ensures err { OnErr result (list.new.items ≡ list.old.items) }
 {
     list.reserve(1)?;
-    note(alloc, places, section.name.as_slice(), list.len())?;
+    let count = section.params().len();
+    note_part(alloc, places, section.name(), count, list.len())?;
     list.push(section)?;
     Ok(())
 }

@@ -1,21 +1,24 @@
 // A text as sections.
 ghost use Rattle.std.specs.Prelude.{◌≡◌, [], ◌∷◌, ◌++◌, IfOk};
-ghost use Rattle.ms_core.specs.Texts.{base_part, said_from};
-ghost use Rattle.ms_texts.specs.Sections.{said_by, GoesOn};
+ghost use Rattle.ms_core.specs.Texts.{base_part, check_part, said_from};
+ghost use Rattle.ms_texts.specs.Sections.{named, said_by, GoesOn};
 
-use crate::section::Section;
+use crate::section::{Heading, Section};
 use ms_base::memory::OutOfMemory;
 use ms_grammar::statement::{Form, Statements};
 use std::alloc::Global;
+use std::rc::Rc;
 
 /// The sections that the statements of a text are, in their order.
 pub(crate) fn sections_of(alloc: Global, list: Statements) -> Result<Vec<Section>, OutOfMemory>
     ensures { IfOk result (λ made. said_by made.items ≡ said_from base_part list) }
 {
+    let check = Heading::check(alloc)?;
+    let base = Heading::base(alloc)?;
     let mut made = Vec::new(alloc);
-    let mut here = Section::base(alloc)?;
+    let mut here = Section::under(alloc, &base)?;
     for statement in list.into_vec() {
-        here = with_form(alloc, &mut made, here, statement.form)?;
+        here = with_form(alloc, &check, &mut made, here, statement.form)?;
     }
     made.push(here)?;
     Ok(made)
@@ -25,21 +28,24 @@ pub(crate) fn sections_of(alloc: Global, list: Statements) -> Result<Vec<Section
 /// gives the section of what follows.
 fn with_form(
     alloc: Global,
+    check: &Rc<Heading>,
     done: &mut Vec<Section>,
     here: Section,
     form: Form,
 ) -> Result<Section, OutOfMemory>
+    requires { named check.now.value ≡ check_part }
     ensures { IfOk result (λ next. GoesOn done.old.items here form done.new.items next) }
 {
     match form {
         Form::IncludeIncmode => {
-            let next = Section::under(alloc, &here.name, here.params.as_slice())?;
+            let next = Section::under(alloc, &here.heading)?;
             done.push(here)?;
-            done.push(Section::check(alloc)?)?;
+            done.push(Section::query(alloc, check)?)?;
             Ok(next)
         }
         Form::Program { name, params } => {
-            let next = Section::under(alloc, &name, params.as_slice())?;
+            let heading = Heading::copied(alloc, &name, params.as_slice())?;
+            let next = Section::under(alloc, &heading)?;
             done.push(with_last(here, Form::Program { name, params })?)?;
             Ok(next)
         }

@@ -109,7 +109,7 @@ impl Texts {
     }
 
     /// The sections of the parts that have this name and so many parameters, in the order of the texts. It costs
-    /// one look-up, and going over them costs a step for each section of the name.
+    /// two look-ups, and going over them a step for each section.
     pub fn part(&self, name: &[u8], count: usize) -> PartSections<'_>
         ensures { said_by result ≡ filter (λ statement. is_part name.now count statement.0) self.now.said }
     {

@@ -9,6 +9,6 @@ use Rattle.ms_texts.proofs.sections.Sections.part.Goals as goal
 pub returns : goal.returns
 returns c =
     let list = c.self.inside.list.items in
-    ap said_by (c.new.ensures ∙ ap (λ l. sections_at c.args.count l c.places_of.result.now) c.as_slice.ensures.value ∙ ap (sections_at c.args.count list) c.places_of.ensures ∙ sections_indexed c.self.inside.places.entries list c.self.invariant c.args.name.now c.args.count)
+    ap said_by (c.new.ensures ∙ ap (λ l. sections_at l c.part_places.result.now) c.as_slice.ensures.value ∙ ap (sections_at list) c.part_places.ensures ∙ sections_indexed c.self.inside.places.entries list c.self.invariant c.args.name.now c.args.count)
     ∙ said_by-filter (is_part c.args.name.now c.args.count) list
     ∙ ap (filter (λ statement. is_part c.args.name.now c.args.count statement.0)) c.self.view_is
