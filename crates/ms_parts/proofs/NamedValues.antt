@@ -1,29 +1,28 @@
 -- Values of names among parameters.
-use Rattle.std.proofs.Common.{◌≡◌, ℕ, true, false, if◌then◌else◌, List, [], ◌∷◌, length, Some, None, refl, ap, ◌∙◌, arith}
+use Rattle.std.proofs.Common.{◌≡◌, ℕ, zero, suc, Bool, true, false, if◌then◌else◌, List, [], ◌∷◌, slice_get, Option, Some, None, refl}
+use Rattle.std.specs.Option.{option_map}
 use Rattle.ms_grammar.specs.declared.value.Value.{Value}
 use Rattle.ms_core.specs.Texts.{value_in, is_name, paired}
+use Rattle.ms_texts.specs.Params.{place_in}
 
--- the value of a name among parameters and their values, from the first pair on
-module _ (name p : List ℕ) (v : Value) (params more : List (List ℕ)) (args others : List Value) (first : params ≡ p ∷ more) (second : args ≡ v ∷ others) where
-  pairs_are : paired params args ≡ (p, v) ∷ paired more others
-  unfolding paired
-  pairs_are = rw first (rw second refl)
+-- the value at a place
+abbrev pub value_at : Option ℕ → List Value → Option Value
+value_at None args = None
+value_at (Some p) args = slice_get args p
 
-  pub argument_here : is_name p name ≡ true → value_in (paired params args) name ≡ Some v
-  unfolding value_in
-  argument_here named = ap (λ l. value_in l name) pairs_are ∙ ap (λ b. if b then Some v else value_in (paired more others) name) named
+none_at : (b : Bool) (place : Option ℕ) → None ≡ value_at (if b then Some zero else option_map suc place) []
+none_at true place = refl
+none_at false None = refl
+none_at false (Some p) = refl
 
-  pub argument_further : is_name p name ≡ false → value_in (paired params args) name ≡ value_in (paired more others) name
-  unfolding value_in
-  argument_further named = ap (λ l. value_in l name) pairs_are ∙ ap (λ b. if b then Some v else value_in (paired more others) name) named
+next_at : (b : Bool) (v : Value) (args : List Value) (place : Option ℕ) (found : Option Value) → found ≡ value_at place args → (if b then Some v else found) ≡ value_at (if b then Some zero else option_map suc place) (v ∷ args)
+next_at true v args place found e = refl
+next_at false v args None found e = e
+next_at false v args (Some p) found e = e
 
-pub no_argument_left : (name : List ℕ) (params : List (List ℕ)) (args : List Value) → length params ≡ 0 → value_in (paired params args) name ≡ None
-unfolding value_in paired
-no_argument_left name [] args e = refl
-no_argument_left name (p ∷ params) args e = absurd (omega (arith, e))
-
-pub no_value_left : (name : List ℕ) (params : List (List ℕ)) (args : List Value) → length args ≡ 0 → value_in (paired params args) name ≡ None
-unfolding value_in paired
-no_value_left name [] args e = refl
-no_value_left name (p ∷ params) [] e = refl
-no_value_left name (p ∷ params) (v ∷ args) e = absurd (omega (arith, e))
+-- the value of a parameter stands at its place
+pub argument_at : (name : List ℕ) (params : List (List ℕ)) (args : List Value) → value_in (paired params args) name ≡ value_at (place_in name params) args
+unfolding value_in paired place_in
+argument_at name [] args = refl
+argument_at name (p ∷ params) [] = none_at (is_name p name) (place_in name params)
+argument_at name (p ∷ params) (v ∷ args) = next_at (is_name p name) v args (place_in name params) (value_in (paired params args) name) (argument_at name params args)

@@ -36,19 +36,19 @@ pub core_is : (t : Texts) (name : List ℕ) (args : List Value) (sections : List
 core_is t name args sections are = ap (flat_map (core_of_said t args)) are ∙ called_only t name args t.said
 
 -- one section after another
-pub core_next : (t : Texts) (args : List Value) (section : Section) (more all : List Section) → all ≡ section ∷ more → core_of_sections t args all ≡ flat_map (core_of_form (meaning_of t section.params args)) section.forms ++ core_of_sections t args more
+pub core_next : (t : Texts) (args : List Value) (section : Section) (more all : List Section) → all ≡ section ∷ more → core_of_sections t args all ≡ flat_map (core_of_form (meaning_of t (part_of section).params args)) section.forms ++ core_of_sections t args more
 core_next t args section more all is =
     ap (core_of_sections t args) is
     ∙ flat_map-append (core_of_said t args) (said_in section) (said_by more)
     ∙ ap (λ l. l ++ core_of_sections t args more) (flat_map-map (core_of_said t args) (λ form. (part_of section, form)) section.forms)
 
 -- the rules so far, those of the next section, and those of the sections after it
-pub core_further : (t : Texts) (args : List Value) (section : Section) (params : List (List ℕ)) (forms : List Form) (more all : List Section) (rules made rest : List CoreRule) → all ≡ section ∷ more → params ≡ section.params → forms ≡ section.forms → made ≡ rules ++ flat_map (core_of_form (meaning_of t params args)) forms → rules ++ core_of_sections t args all ≡ rest → made ++ core_of_sections t args more ≡ rest
+pub core_further : (t : Texts) (args : List Value) (section : Section) (params : List (List ℕ)) (forms : List Form) (more all : List Section) (rules made rest : List CoreRule) → all ≡ section ∷ more → params ≡ (part_of section).params → forms ≡ section.forms → made ≡ rules ++ flat_map (core_of_form (meaning_of t params args)) forms → rules ++ core_of_sections t args all ≡ rest → made ++ core_of_sections t args more ≡ rest
 core_further t args section params forms more all rules made rest is params_are forms_are are so_far =
     ap (λ l. l ++ core_of_sections t args more) are
     ∙ append_assoc rules (flat_map (core_of_form (meaning_of t params args)) forms) (core_of_sections t args more)
     ∙ ap (λ l. rules ++ (flat_map (core_of_form (meaning_of t l args)) forms ++ core_of_sections t args more)) params_are
-    ∙ ap (λ l. rules ++ (flat_map (core_of_form (meaning_of t section.params args)) l ++ core_of_sections t args more)) forms_are
+    ∙ ap (λ l. rules ++ (flat_map (core_of_form (meaning_of t (part_of section).params args)) l ++ core_of_sections t args more)) forms_are
     ∙ ap (λ l. rules ++ l) (sym (core_next t args section more all is))
     ∙ so_far
 

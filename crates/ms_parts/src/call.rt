@@ -36,7 +36,7 @@ pub(crate) fn core_of_part(
     let mut rules = Seq::new(alloc);
     for section in texts.part(name, args.len()) {
         let means = Meanings {
-            params: section.params.as_slice(),
+            params: section.params(),
             args,
             texts,
         };

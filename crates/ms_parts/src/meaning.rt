@@ -4,14 +4,13 @@ ghost use Rattle.std.specs.Option.{option_copied};
 ghost use Rattle.ms_core.specs.Texts.{value_in, paired};
 ghost use Rattle.ms_parts.specs.Meanings.{meant};
 
-use ms_base::seq::Bytes;
 use ms_grammar::value::Value;
-use ms_texts::Texts;
+use ms_texts::{Params, Texts};
 
 /// The parameters of a part with their values, and the texts with their constants.
 #[derive(Drop)]
 pub(crate) struct Meanings<'a> {
-    pub params: &'a [Bytes],
+    pub params: &'a Params,
     pub args: &'a [Value],
     pub texts: &'a Texts,
 }
@@ -31,11 +30,7 @@ impl<'a> Meanings<'a> {
     fn argument(&self, name: &[u8]) -> Option<&'a Value>
         ensures { option_copied result ≡ value_in (paired self.now.params.now self.now.args.now) name.now }
     {
-        for (param, value) in self.params.iter().zip(self.args) {
-            if param.as_slice() == name {
-                return Some(value);
-            }
-        }
-        None
+        let place = self.params.place(name)?;
+        self.args.get(place)
     }
 }

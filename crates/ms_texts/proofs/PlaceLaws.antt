@@ -1,6 +1,8 @@
 -- Where the sections of a name stand.
 use Rattle.std.proofs.Common.{◌≡◌, ℕ, zero, suc, ◌+◌, Bool, true, false, cond, if◌then◌else◌, List, [], ◌∷◌, ◌++◌, length, slice_get, Option, Some, None, refl, sym, ap, ◌∙◌, arith}
 use Rattle.std.specs.Prelude.{Vec, nat_eq, ◌==◌, ◌&&◌}
+use Rattle.std.proofs.lemmas.Bool.{eqb-true}
+use Rattle.std.proofs.Math.Bool.{and-true, and-false}
 use Rattle.std.specs.List.{filter, cons_option}
 use Rattle.std.specs.Map.{lookup, set_value}
 use Rattle.std.specs.Cmp.Lexicographic.{pointwise, nat_list_eq_equiv}
@@ -195,7 +197,7 @@ module _ {A S : Type 0} (other : List ℕ) (count n : ℕ) (counts new : List (�
   more_if : (more : Bool) (place : ℕ) (b : Bool) → nat_eq count n ≡ b → places_in other w.entries ≡ places_at count ++ place_if more place → places_in other (entries_or_none (cond b (Some w) (lookup (nat_eq n) counts))) ≡ places_at n ++ place_if (more && b) place
   more_if more place true same noted =
       noted
-      ∙ ap (λ k. places_at k ++ place_if more place) (eq-nat_eq count n same)
+      ∙ ap (λ k. places_at k ++ place_if more place) (eqb-true count n same)
       ∙ ap (λ b. places_at n ++ place_if b place) (sym (and-true more))
   more_if more place false differ noted = sym (append-nil (places_at n)) ∙ ap (λ b. places_at n ++ place_if b place) (sym (and-false more))
 
@@ -203,7 +205,7 @@ module _ {A S : Type 0} (other : List ℕ) (count n : ℕ) (counts new : List (�
   counted_more name place noted = ap (λ o. places_in other (entries_or_none o)) looked ∙ more_if (is_name name other) place (nat_eq count n) refl noted
 
   kept_if : (b : Bool) → nat_eq count n ≡ b → places_in other w.entries ≡ places_at count → places_in other (entries_or_none (cond b (Some w) (lookup (nat_eq n) counts))) ≡ places_at n
-  kept_if true same kept = kept ∙ ap places_at (eq-nat_eq count n same)
+  kept_if true same kept = kept ∙ ap places_at (eqb-true count n same)
   kept_if false differ kept = refl
 
   pub counted_kept : places_in other w.entries ≡ places_at count → part_places other n new ≡ part_places other n counts

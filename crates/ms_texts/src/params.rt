@@ -1,5 +1,5 @@
 // The names of parameters.
-ghost use Rattle.std.specs.Prelude.{◌≡◌, ℕ, List, length, IfOk};
+ghost use Rattle.std.specs.Prelude.{◌≡◌, ◌++◌, [], ◌∷◌, ℕ, List, length, IfOk, OnOk};
 ghost use Rattle.ms_texts.specs.Params.{place_in, IndexesNames};
 
 use indexmap::IndexMap;
@@ -86,7 +86,7 @@ fn places_of(alloc: Global, names: &[Bytes]) -> Result<Places, OutOfMemory>
     Ok(places)
 }
 
-/// Adds the place of a name that has none.
+/// Adds the place of a name, where it has none.
 fn note_place(
     alloc: Global,
     places: &mut Places,
@@ -95,8 +95,9 @@ fn note_place(
 ) -> Result<(), OutOfMemory>
     ensures { OnOk result ((names : List (List ℕ)) → length names ≡ place → IndexesNames places.old.entries names → IndexesNames places.new.entries (names ++ name.now ∷ [])) }
 {
-    if places.get(name).is_none() {
-        places.insert(Vec::from_slice(alloc, name)?, place)?;
+    if places.contains_key(name) {
+        return Ok(());
     }
+    places.insert(Vec::from_slice(alloc, name)?, place)?;
     Ok(())
 }

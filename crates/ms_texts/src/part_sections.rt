@@ -1,5 +1,5 @@
 // The sections of one part.
-ghost use Rattle.std.specs.Prelude.{◌≡◌, ◌∷◌, [], MatchOption};
+ghost use Rattle.std.specs.Prelude.{◌≡◌, ◌∷◌, [], MatchOption, option_copied, slice_get};
 ghost use Rattle.ms_texts.specs.Sections.{sections_at};
 
 use crate::section::Section;
@@ -51,7 +51,7 @@ impl<'a> Iterator for PartSections<'a> {
         let mut places = self.places;
         while let Some((place, after)) = split_first(places) {
             places = after;
-            if let Some(section) = self.sections.get(place) {
+            if let Some(section) = section_at(self.sections, place) {
                 self.places = places;
                 return Some(section);
             }
@@ -69,4 +69,11 @@ fn split_first(places: &[usize]) -> Option<(usize, &[usize])>
         [] => None,
         [place, after @ ..] => Some((*place, after)),
     }
+}
+
+/// The section at a place.
+fn section_at<'a>(sections: &'a [Section], place: usize) -> Option<&'a Section>
+    ensures { option_copied result ≡ slice_get sections.now place }
+{
+    sections.get(place)
 }

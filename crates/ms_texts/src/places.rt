@@ -44,12 +44,7 @@ pub(crate) fn part_places<'a>(counts: &'a PartPlaces, name: &[u8], count: usize)
 }
 
 /// Adds a place to those of a name.
-fn note(
-    alloc: Global,
-    places: &mut Places,
-    name: &[u8],
-    place: usize,
-) -> Result<(), OutOfMemory>
+fn note(alloc: Global, places: &mut Places, name: &[u8], place: usize) -> Result<(), OutOfMemory>
     ensures ok { OnOk result ((other : List ℕ) → places_in other places.new.entries ≡ places_in other places.old.entries ++ (if is_name name.now other then place ∷ [] else [])) }
     ensures err { OnErr result ((other : List ℕ) → places_in other places.new.entries ≡ places_in other places.old.entries) }
 {

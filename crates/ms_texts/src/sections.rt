@@ -68,10 +68,7 @@ impl Sections {
     pub fn part(&self, name: &[u8], count: usize) -> PartSections<'_>
         ensures { said_by result ≡ filter (λ statement. is_part name.now count statement.0) self.now }
     {
-        PartSections::new(
-            self.list.as_slice(),
-            part_places(&self.places, name, count),
-        )
+        PartSections::new(self.list.as_slice(), part_places(&self.places, name, count))
     }
 }
 

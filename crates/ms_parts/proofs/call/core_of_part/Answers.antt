@@ -11,7 +11,7 @@ loop-section-init c =
 
 pub loop-section-preserved : goal.loop-section-preserved
 loop-section-preserved c =
-    core_further c.args.texts.now c.args.args.now c.in-Some.section.now c.as_slice.result.now c.as_slice-in-loop-section.result.now c.next.new.self c.loop-section.section-iterator c.loop-section.rules c.append_forms.new.into (core_of_call c.args.texts.now c.args.name.now c.args.args.now) c.in-Some.ensures.steps c.as_slice.ensures c.as_slice-in-loop-section.ensures c.in_ok-append_forms.ensures c.loop-section.invariant
+    core_further c.args.texts.now c.args.args.now c.in-Some.section.now c.params.result.now c.as_slice.result.now c.next.new.self c.loop-section.section-iterator c.loop-section.rules c.append_forms.new.into (core_of_call c.args.texts.now c.args.name.now c.args.args.now) c.in-Some.ensures.steps c.params.ensures c.as_slice.ensures c.in_ok-append_forms.ensures c.loop-section.invariant
 
 pub returns : goal.returns
 returns c =
