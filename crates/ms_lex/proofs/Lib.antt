@@ -5,3 +5,4 @@ pub mod Reading
 pub mod Steps
 pub mod Strings
 pub mod Words
+pub mod Blanks

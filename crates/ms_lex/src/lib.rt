@@ -6,6 +6,7 @@ ghost use Rattle.ms_text.specs.Tokens.{tokens_of, LieWithin};
 ghost use Rattle.ms_lex.specs.declared.LexFault.TheVariants.{OutOfMemory};
 ghost use Rattle.ms_lex.specs.Gives.{Gives, ComesBefore};
 
+mod blank;
 mod bytes;
 mod directive;
 mod front;
@@ -14,6 +15,7 @@ mod number;
 mod sign;
 mod string;
 
+pub use blank::is_blank_text;
 use bytes::{is_blank, line_after};
 pub use bytes::{line_len, word_len};
 use front::first_token;

@@ -1,10 +1,10 @@
 -- What a line outside a text is.
 use Rattle.std.proofs.Common.{◌≡◌, ℕ, suc, Bool, true, false, eqb, List, [], ◌∷◌, length, take, drop, take_while, Result, Ok, Err, IfOk, refl, sym, ap, ◌∙◌, subst, one-add, eqb-true, arith}
-use Rattle.std.specs.Prelude.{codes, nat_eq, ◌==◌, ◌&&◌}
+use Rattle.std.specs.Prelude.{codes, nat_eq, ◌==◌, ◌&&◌, ◌||◌}
 use Rattle.std.specs.List.{prefix_len}
 use Rattle.std.specs.Cmp.Lexicographic.{pointwise}
 use Rattle.std.proofs.lemmas.List.Folds.{length-prefix_len}
-use Rattle.std.proofs.lemmas.Bool.{false≢true, and_parts}
+use Rattle.std.proofs.lemmas.Bool.{false≢true, true≢false, and_parts}
 use Rattle.ms_text.specs.declared.token.Token.{Token}
 use Rattle.ms_text.specs.declared.token.BadByte.{BadByte}
 use Rattle.ms_text.specs.Tokens.{is_word, is_blank, tokens_of, tokens_from, line_after}
@@ -15,7 +15,7 @@ use Rattle.ms_call.specs.Commands.{IsSaid}
 use Rattle.ms_call.specs.Lines.{is_space, skipped, IsBlank, HasWord, OpensText, IsCommand}
 use Rattle.ms_lines.specs.declared.kinds.LineKind.{LineKind}
 use Rattle.ms_lines.specs.declared.kinds.LineKind.TheVariants.{Passed, OpensText as opens_text, Command as is_command, Bad}
-use Rattle.ms_lines.specs.Kinds.{IsKind, HasNoSign}
+use Rattle.ms_lines.specs.Kinds.{IsKind, HasNoSign, is_text, is_command_word}
 use Rattle.ms_lines.specs.Finding.{IsOnly}
 use Rattle.ms_lines.proofs.NameLemmas.{same_text, other_text}
 use Rattle.ms_lines.proofs.Sequences.{cons-not-nil}
@@ -146,6 +146,45 @@ module _ (line after : List ℕ) (sign : skipped is_space line ≡ 64 ∷ after)
     lexed_only,
   )
 
+-- the word begins no command
+or_left : (a b : Bool) → (a || b) ≡ false → a ≡ false
+or_left true b e = absurd (true≢false e)
+or_left false b e = refl
+
+or_right : (a b : Bool) → (a || b) ≡ false → b ≡ false
+or_right true b e = absurd (true≢false e)
+or_right false b e = e
+
+module _ (word : List ℕ) (other : is_command_word word ≡ false) where
+  after_add : (is_text word (codes "ground") || is_text word (codes "assign") || is_text word (codes "release") || is_text word (codes "solve")) ≡ false
+  after_add = or_right (is_text word (codes "add")) _ other
+
+  after_ground : (is_text word (codes "assign") || is_text word (codes "release") || is_text word (codes "solve")) ≡ false
+  after_ground = or_right (is_text word (codes "ground")) _ after_add
+
+  after_assign : (is_text word (codes "release") || is_text word (codes "solve")) ≡ false
+  after_assign = or_right (is_text word (codes "assign")) _ after_ground
+
+  not_add_word : word ≡ codes "add" → ⊥
+  not_add_word = other_text word (codes "add") (or_left (is_text word (codes "add")) _ other)
+
+  not_said : (ws : List Word) (command : Command) → IsSaid word ws command → ⊥
+  not_said ws (Add text) is = is
+  not_said ws (Ground calls) is = other_text word (codes "ground") (or_left (is_text word (codes "ground")) _ after_add) is.0
+  not_said ws (Assign atom truth) is = other_text word (codes "assign") (or_left (is_text word (codes "assign")) _ after_ground) is.0
+  not_said ws (Release atom) is = other_text word (codes "release") (or_left (is_text word (codes "release")) _ after_assign) is.0
+  not_said ws (Solve count limit assume) is = other_text word (codes "solve") (or_right (is_text word (codes "release")) _ after_assign) is.0
+
+  -- whatever follows it
+  unknown_by : (line after : List ℕ) → skipped is_space line ≡ 64 ∷ after → word ≡ take_while is_word after → (r : Result (List Token) BadByte) → tokens_of (skipped is_word after) ≡ r → IsOnly (IsKind line) Bad
+  unknown_by line after sign is (Ok tokens) lexed =
+      bad_here line word (skipped is_word after) tokens (record { after = after; at_sign = sign; word_is = is; rest_is = refl; tokens_are = lexed })
+      (λ w none. not_add_word w) (not_said (words_of (skipped is_word after) tokens))
+  unknown_by line after sign is (Err bad) lexed = bad_byte line after sign bad lexed
+
+  pub unknown_word : (line after : List ℕ) → skipped is_space line ≡ 64 ∷ after → word ≡ take_while is_word after → IsOnly (IsKind line) Bad
+  unknown_word line after sign is = unknown_by line after sign is (tokens_of (skipped is_word after)) refl
+
 -- a line without an at sign
 module _ (line : List ℕ) (no_sign : HasNoSign line) where
   unsigned_word : (word rest : List ℕ) (tokens : List Token) → HasWord line word rest tokens → ⊥
@@ -184,7 +223,7 @@ module _ (after : List ℕ) (len : ℕ) (e : len ≡ length (take_while is_word 
   pub cut_text : (text : List ℕ) → text ≡ drop len after → text ≡ skipped is_word after
   cut_text text back = back ∙ ap (λ n. drop n after) e
 
-  cut_word : (word : List ℕ) → word ≡ take len after → word ≡ take_while is_word after
+  pub cut_word : (word : List ℕ) → word ≡ take len after → word ≡ take_while is_word after
   cut_word word front = front ∙ ap (λ n. take n after) cut_len
 
   pub kind_of_cut : {E : Type 0} (word text : List ℕ) → word ≡ take len after → text ≡ drop len after → (tokens : List Token) → tokens_of text ≡ Ok tokens → (r : Result LineKind E)

@@ -56,23 +56,11 @@ module _ (line : List ℕ) where
   pub says_by_end : (text : List ℕ) (said : Option Item × Open) → said ≡ text_says (ends_text line) text line → IsOnly (Says (Some text) line) said
   says_by_end text said e = (e, λ other is. is ∙ sym e)
 
-  pub goes_on : (text next : List ℕ) → ends_text line ≡ false → next ≡ text ++ (line ++ 10 ∷ []) → IsOnly (Says (Some text) line) (None, Some next)
-  goes_on text next e q = says_by_end text (None, Some next) (ap (λ t. (None, Some t)) (q ∙ sym (append_assoc text line (10 ∷ []))) ∙ ap (λ b. text_says b text line) (sym e))
+  pub goes_on : (text next : List ℕ) → ends_text line ≡ false → next ≡ text ++ line ++ 10 ∷ [] → IsOnly (Says (Some text) line) (None, Some next)
+  goes_on text next e q = says_by_end text (None, Some next) (ap (λ t. (None, Some t)) q ∙ ap (λ b. text_says b text line) (sym e))
 
   pub said_as : (kind known : LineKind) → IsOnly (IsKind line) kind → kind ≡ known → (left : Open) → left ≡ (said_of known).1 → IsOnly (Says None line) ((said_of known).0, left)
   said_as kind known h e left q = subst (λ l. IsOnly (Says None line) ((said_of known).0, l)) (sym q) (says_by_kind known (subst (IsOnly (IsKind line)) e h))
-
--- the first line with its line end
-stops_by : (b : ℕ) (t : Bool) → eqb b 10 ≡ t → is_in_line b ≡ false → b ≡ 10
-stops_by b true h e = eqb-true b 10 h
-stops_by b false h e = absurd (true≢false (rw h at e))
-
-stops_at : (b : ℕ) → is_in_line b ≡ false → b ≡ 10
-stops_at b e = stops_by b (eqb b 10) refl e
-
-pub line_with_end : (bytes : List ℕ) (len : ℕ) → IsLineLen bytes len → take (len + 1) bytes ≡ take len bytes ++ 10 ∷ []
-line_with_end bytes len is =
-    take_more bytes len 0 is.within ∙ ap (λ b. take len bytes ++ b ∷ []) (ap (λ n. get_or bytes n 0) is.len_is ∙ stops_at (get_or bytes (prefix_len is_in_line bytes) 0) (prefix_len_stops is_in_line bytes 0 (subst (λ n. n < length bytes) is.len_is is.within)))
 
 -- the lines of bytes whose first line has a line end
 module _ (ended : Bool) (more : List ℕ) where
@@ -147,57 +135,33 @@ at_end_later first second third item a b items left = (
   λ h. (a items left).1 (items, refl, (b items left).1 h),
 )
 
--- A last line without its line end is the line that it is with it.
-last_by : (b : ℕ) (bs : List ℕ) → (HasNoLine bs → (lines_in true (bs ++ 10 ∷ []) ≡ bs ∷ []) × (in_first_line true b (lines_in true bs) ≡ (b ∷ bs) ∷ [])) → (t : Bool) → eqb b 10 ≡ t → HasNoLine (b ∷ bs) → (lines_in true (b ∷ bs ++ 10 ∷ []) ≡ (b ∷ bs) ∷ []) × (lines_in true (b ∷ bs) ≡ (b ∷ bs) ∷ [])
+-- A last line that has no line end is a line.
+last_by : (b : ℕ) (bs : List ℕ) → (HasNoLine bs → in_first_line true b (lines_in true bs) ≡ (b ∷ bs) ∷ []) → (t : Bool) → eqb b 10 ≡ t → HasNoLine (b ∷ bs) → lines_in true (b ∷ bs) ≡ (b ∷ bs) ∷ []
 unfolding lines_in
 last_by b bs h true e none = let here : prefix_len is_in_line (b ∷ bs) ≡ 0 = rw e refl in absurd (omega (arith, none, here))
 last_by b bs h false e none =
     let here : prefix_len is_in_line (b ∷ bs) ≡ suc (prefix_len is_in_line bs) = rw (e, one-add) refl in
-    let rest = h (omega (arith, none, here)) in
-    (rw (lines_in, e, rest.0) refl, rw (lines_in, e) rest.1)
+    rw (lines_in, e) (h (omega (arith, none, here)))
 
-last_after : (a : ℕ) (bs : List ℕ) → HasNoLine bs → (lines_in true (bs ++ 10 ∷ []) ≡ bs ∷ []) × (in_first_line true a (lines_in true bs) ≡ (a ∷ bs) ∷ [])
+last_after : (a : ℕ) (bs : List ℕ) → HasNoLine bs → in_first_line true a (lines_in true bs) ≡ (a ∷ bs) ∷ []
 unfolding lines_in
-last_after a [] none = (refl, refl)
-last_after a (b ∷ bs) none = let h = last_by b bs (last_after b bs) (eqb b 10) refl none in (h.0, ap (in_first_line true a) h.1)
+last_after a [] none = refl
+last_after a (b ∷ bs) none = ap (in_first_line true a) (last_by b bs (last_after b bs) (eqb b 10) refl none)
 
-last_line_ended : (bytes : List ℕ) → (bytes ≡ [] → ⊥) → HasNoLine bytes → lines_in true (bytes ++ 10 ∷ []) ≡ lines_in true bytes
-last_line_ended [] some none = absurd (some refl)
-last_line_ended (b ∷ bs) some none = let h = last_by b bs (last_after b bs) (eqb b 10) refl none in h.0 ∙ sym h.1
+last_alone : (bytes : List ℕ) → (bytes ≡ [] → ⊥) → HasNoLine bytes → lines_in true bytes ≡ bytes ∷ []
+last_alone [] some none = absurd (some refl)
+last_alone (b ∷ bs) some none = last_by b bs (last_after b bs) (eqb b 10) refl none
 
-pub at_end_pushed : (before after : Lines) → (before.rest ≡ [] → ⊥) → HasNoLine before.rest → after.text ≡ before.text → after.rest ≡ before.rest ++ 10 ∷ [] → SaysAtEnd before None after
-at_end_pushed before after some none text rest items left =
-    let lines : lines_in true (after.rest ++ []) ≡ lines_in true (before.rest ++ []) = ap (lines_in true) (append-nil after.rest ∙ rest) ∙ last_line_ended before.rest some none ∙ ap (lines_in true) (sym (append-nil before.rest)) in (
-      λ h. (items, refl, subst (λ t. HaveItems t (lines_in true (after.rest ++ [])) items left) (sym text) (subst (λ ls. HaveItems before.text ls items left) (sym lines) h)),
-      λ h. subst (λ is. HasLeft before true [] is left) (sym h.1) (subst (λ ls. HaveItems before.text ls h.0 left) lines (subst (λ t. HaveItems t (lines_in true (after.rest ++ [])) h.0 left) text h.2)),
-    )
+no_lines : (bytes : List ℕ) → bytes ≡ [] → lines_in true (bytes ++ []) ≡ []
+unfolding lines_in
+no_lines bytes none = ap (λ bs. lines_in true (bs ++ [])) none
 
--- what ends with a line end and has no line is empty
-ends_by : (b : ℕ) (bs : List ℕ) → (HasNoLine bs → (xs : List ℕ) → bs ≡ xs ++ 10 ∷ [] → ⊥) → (t : Bool) → eqb b 10 ≡ t → HasNoLine (b ∷ bs) → (xs : List ℕ) → b ∷ bs ≡ xs ++ 10 ∷ [] → ⊥
-ends_by b bs h true e none xs q = let here : prefix_len is_in_line (b ∷ bs) ≡ 0 = rw e refl in omega (arith, none, here)
-ends_by b bs h false e none [] q = let same : b ≡ 10 = cc in false≢true (sym e ∙ ap (λ n. eqb n 10) same)
-ends_by b bs h false e none (x ∷ xs) q =
-    let here : prefix_len is_in_line (b ∷ bs) ≡ suc (prefix_len is_in_line bs) = rw (e, one-add) refl in
-    let rest : bs ≡ xs ++ 10 ∷ [] = cc in
-    h (omega (arith, none, here)) xs rest
-
-no_line_ends : (bytes : List ℕ) → HasNoLine bytes → (xs : List ℕ) → bytes ≡ xs ++ 10 ∷ [] → ⊥
-no_line_ends [] none [] q = cc
-no_line_ends [] none (x ∷ xs) q = cc
-no_line_ends (b ∷ bs) none xs q = ends_by b bs (no_line_ends bs) (eqb b 10) refl none xs q
-
-nothing_after : (front part : List ℕ) → [] ≡ front ++ part → part ≡ []
-nothing_after [] part e = sym e
-nothing_after (x ∷ front) part e = absurd (let f : ⊥ = cc in f)
-
--- a part at the end of what ends with a line end is empty, or ends with it
-last_part : (front part bytes : List ℕ) → bytes ++ 10 ∷ [] ≡ front ++ part → (part ≡ []) ⊎ ((xs : List ℕ) × (part ≡ xs ++ 10 ∷ []))
-last_part [] part bytes e = inr (bytes, sym e)
-last_part (x ∷ front) part [] e = let rest : [] ≡ front ++ part = cc in inl (nothing_after front part rest)
-last_part (x ∷ front) part (b ∷ bs) e = let rest : bs ++ 10 ∷ [] ≡ front ++ part = cc in last_part front part bs rest
-
-pub all_read : (front part bytes : List ℕ) → bytes ++ 10 ∷ [] ≡ front ++ part → HasNoLine part → part ≡ []
-all_read front part bytes e none = elim (last_part front part bytes e) [ inl h ↦ h | inr h ↦ absurd (no_line_ends part none h.0 h.1) ]
+pub at_end_last : (before after : Lines) → (before.rest ≡ [] → ⊥) → HasNoLine before.rest → (item : Option Item) → IsOnly (Says before.text before.rest) (item, after.text) → after.rest ≡ [] → SaysAtEnd before item after
+at_end_last before after some none item only all items left =
+    let lines : lines_in true (before.rest ++ []) ≡ before.rest ∷ lines_in true (after.rest ++ []) =
+    ap (lines_in true) (append-nil before.rest) ∙ last_alone before.rest some none ∙ ap (λ ls. before.rest ∷ ls) (sym (no_lines after.rest all)) in
+    let step = HaveItems-line before.text before.rest (lines_in true (after.rest ++ [])) (item, after.text) only items left in
+    (λ h. step.0 (subst (λ ls. HaveItems before.text ls items left) lines h), λ h. subst (λ ls. HaveItems before.text ls items left) (sym lines) (step.1 h))
 
 -- what is kept of the bytes
 pub ends_itself : (bytes : List ℕ) → IsEndOf bytes bytes
@@ -230,18 +194,6 @@ module _ {E : Type 0} (r : Result Fed E) (before middle after : Lines) (start : 
 
   pub err_after : OnErr r (SaysAtEnd middle None after) → OnErr r (SaysAtEnd before None after)
   err_after = err_by r
-
-pub ended_said : {E : Type 0} (r : Result Fed E) (before after : Lines) → IfOk r (λ fed. SaysThen before (item_of fed) after) → IfOk r (λ fed. SaysAtEnd before (item_of fed) after)
-ended_said (Ok fed) before after h = says_at_end before after (item_of fed) h
-ended_said (Err e) before after h = tt
-
-pub ended_err : {E : Type 0} (r : Result Fed E) (before after : Lines) → OnErr r (SaysThen before None after) → OnErr r (SaysAtEnd before None after)
-ended_err (Ok fed) before after h = tt
-ended_err (Err e) before after h = says_at_end before after None h
-
-pub ended_all : {E : Type 0} (r : Result Fed E) (bytes pushed last : List ℕ) → pushed ≡ bytes ++ 10 ∷ [] → IsEndOf pushed last → IfOk r (λ fed. item_of fed ≡ None → HasNoLine last) → IfOk r (λ fed. item_of fed ≡ None → last ≡ [])
-ended_all (Ok fed) bytes pushed last e k h = λ none. all_read k.0 last bytes (sym e ∙ k.1) (h none)
-ended_all (Err e) bytes pushed last q k h = tt
 
 -- how much is left to read
 pub lacks_first : (bytes last : List ℕ) (len : ℕ) → IsLineLen bytes len → last ≡ drop (len + 1) bytes → LacksLine bytes last
@@ -282,18 +234,11 @@ shorter_item BadCommand bytes last h = omega (arith, h)
 shorter_item NotYet bytes last h = tt
 
 -- the last line, which is all that is left
-line_ended_len : (bytes : List ℕ) → HasNoLine bytes → length bytes ≤ prefix_len is_in_line (bytes ++ 10 ∷ [])
-line_ended_len bytes none = omega (arith, none, front_more is_in_line bytes (10 ∷ []))
-
-last_shorter : (fed : Fed) (bytes pushed last : List ℕ) → pushed ≡ bytes ++ 10 ∷ [] → (bytes ≡ [] → ⊥) → HasNoLine bytes → LosesLine fed pushed last → IsShorter fed bytes last
-last_shorter fed [] pushed last e some none h = absurd (some refl)
-last_shorter (is_fed c) (b ∷ bs) pushed last e some none h = omega (arith, h, ap length e, ap (prefix_len is_in_line) e, length-append (b ∷ bs) (10 ∷ []), line_ended_len (b ∷ bs) none)
-last_shorter BadCommand (b ∷ bs) pushed last e some none h = omega (arith, h, ap length e, ap (prefix_len is_in_line) e, length-append (b ∷ bs) (10 ∷ []), line_ended_len (b ∷ bs) none)
-last_shorter NotYet (b ∷ bs) pushed last e some none h = tt
-
-pub ended_shorter : {E : Type 0} (r : Result Fed E) (bytes pushed last : List ℕ) → pushed ≡ bytes ++ 10 ∷ [] → (bytes ≡ [] → ⊥) → HasNoLine bytes → IfOk r (λ fed. LosesLine fed pushed last) → IfOk r (λ fed. IsShorter fed bytes last)
-ended_shorter (Ok fed) bytes pushed last e some none h = last_shorter fed bytes pushed last e some none h
-ended_shorter (Err error) bytes pushed last e some none h = tt
+pub last_shorter : (fed : Fed) (bytes last : List ℕ) → (bytes ≡ [] → ⊥) → last ≡ [] → IsShorter fed bytes last
+last_shorter fed [] last some none = absurd (some refl)
+last_shorter (is_fed c) (b ∷ bs) last some none = omega (arith, ap length none)
+last_shorter BadCommand (b ∷ bs) last some none = omega (arith, ap length none)
+last_shorter NotYet (b ∷ bs) last some none = tt
 
 -- nothing was said before the last line
 after_part : (fed : Fed) (bytes here last : List ℕ) → IsEndOf bytes here → IsShorter fed here last → IsShorter fed bytes last

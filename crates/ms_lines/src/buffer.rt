@@ -96,6 +96,15 @@ impl Buffer {
         }
     }
 
+    /// Takes all bytes away.
+    pub fn clear(&mut self)
+        ensures { self.new ≡ [] }
+    {
+        self.bytes.clear();
+        self.gone = 0;
+        self.seen = 0;
+    }
+
     /// Takes bytes at the front away, no more than up to behind the first line end.
     pub fn advance(&mut self, count: usize)
         requires { count ≤ length self.old }

@@ -1,15 +1,15 @@
 // What a line outside a text is.
-ghost use Rattle.std.specs.Prelude.{ℕ, ◌≡◌, ◌==◌, ◌&&◌, ◌≤◌, ◌↔◌, nat_eq, codes, List, length, take_while, [], ◌∷◌, Ok, IfOk, IsTrue};
+ghost use Rattle.std.specs.Prelude.{ℕ, ◌≡◌, ◌==◌, ◌&&◌, ◌≤◌, nat_eq, codes, List, length, take_while, ◌∷◌, IfOk};
 ghost use Rattle.std.specs.Cmp.Lexicographic.{pointwise};
-ghost use Rattle.ms_text.specs.Tokens.{tokens_of, LieWithin};
+ghost use Rattle.ms_text.specs.Tokens.{LieWithin};
 ghost use Rattle.ms_call.specs.Lines.{is_space, skipped, HasWord};
 ghost use Rattle.ms_lines.specs.Finding.{IsOnly};
-ghost use Rattle.ms_lines.specs.Kinds.{IsKind, HasNoSign};
+ghost use Rattle.ms_lines.specs.Kinds.{IsKind, HasNoSign, is_command_word};
 
 use crate::commands::read_command;
 use ms_base::memory::OutOfMemory;
 use ms_call::command::Command;
-use ms_lex::{LexFault, Token, lex, word_len};
+use ms_lex::{LexFault, Token, is_blank_text, lex, word_len};
 use std::alloc::Global;
 
 /// What a line outside a text is.
@@ -30,30 +30,19 @@ pub(crate) fn line_kind(alloc: Global, line: &[u8]) -> Result<LineKind, OutOfMem
 {
     match skip_spaces(line) {
         [b'@', after @ ..] => kind_after_sign(alloc, after),
-        _ => kind_without_sign(alloc, line),
+        _ => Ok(kind_without_sign(line)),
     }
 }
 
 /// What a line is that has no at sign in front.
-fn kind_without_sign(alloc: Global, line: &[u8]) -> Result<LineKind, OutOfMemory>
+fn kind_without_sign(line: &[u8]) -> LineKind
     requires { HasNoSign line.now }
-    ensures { IfOk result (IsOnly (IsKind line.now)) }
+    ensures { IsOnly (IsKind line.now) result }
 {
-    if has_no_token(alloc, line)? {
-        Ok(LineKind::Passed)
+    if is_blank_text(line) {
+        LineKind::Passed
     } else {
-        Ok(LineKind::Bad)
-    }
-}
-
-/// Whether a line is of blanks, a comment or both.
-fn has_no_token(alloc: Global, line: &[u8]) -> Result<bool, OutOfMemory>
-    ensures { IfOk result (λ none. IsTrue none ↔ (tokens_of line.now ≡ Ok [])) }
-{
-    match lex(alloc, line) {
-        Ok(tokens) => Ok(tokens.is_empty()),
-        Err(LexFault::BadByte { .. }) => Ok(false),
-        Err(LexFault::OutOfMemory) => Err(OutOfMemory),
+        LineKind::Bad
     }
 }
 
@@ -62,11 +51,25 @@ fn kind_after_sign(alloc: Global, after: &[u8]) -> Result<LineKind, OutOfMemory>
     ensures { IfOk result (λ kind. (line : List ℕ) → skipped is_space line ≡ 64 ∷ after.now → IsOnly (IsKind line) kind) }
 {
     let (word, text) = after.split_at(word_len(after));
+    if !is_command_word(word) {
+        return Ok(LineKind::Bad);
+    }
     match lex(alloc, text) {
         Ok(tokens) => kind_by_tokens(alloc, word, text, tokens.as_slice()),
         Err(LexFault::BadByte { .. }) => Ok(LineKind::Bad),
         Err(LexFault::OutOfMemory) => Err(OutOfMemory),
     }
+}
+
+/// Whether lines with this word may be commands.
+fn is_command_word(word: &[u8]) -> bool
+    ensures { result ≡ is_command_word word.now }
+{
+    word == b"add".as_slice()
+        || word == b"ground".as_slice()
+        || word == b"assign".as_slice()
+        || word == b"release".as_slice()
+        || word == b"solve".as_slice()
 }
 
 /// What a line is with this word and the tokens of the text after it.

@@ -1,7 +1,7 @@
 // Commands of a script that comes in pieces, cut anywhere.
 #![tactic(auto)]
 
-ghost use Rattle.std.specs.Prelude.{◌≡◌, ◌↔◌, ◌<◌, ◌++◌, [], None, length, take, IfOk, OnOk, OnErr, IsTrue, IsSome, MatchOption};
+ghost use Rattle.std.specs.Prelude.{◌≡◌, ◌↔◌, ◌<◌, ◌++◌, [], None, length, IfOk, OnOk, OnErr, IsTrue, IsSome, MatchOption};
 ghost use Rattle.ms_call.specs.Items.{Says};
 ghost use Rattle.ms_lines.specs.Finding.{IsOnly};
 ghost use Rattle.ms_lines.specs.Buffers.{IsLineLen, HasNoLine, BeginsNotBlank, IsEndOf, LacksLine};
@@ -135,7 +135,7 @@ impl Lines {
         }
     }
 
-    /// Reads the last line, which lacks its line end.
+    /// Reads the last line, which lacks its line end. What is kept of the script isn't copied for it.
     fn last_line(&mut self, alloc: Global) -> Result<Fed, OutOfMemory>
         requires { HasNoLine self.old.rest }
         ensures said { IfOk result (λ fed. SaysAtEnd self.old (item_of fed) self.new) }
@@ -147,8 +147,9 @@ impl Lines {
         if self.rest.is_empty() {
             return Ok(Fed::NotYet);
         }
-        self.rest.push(b"\n")?;
-        self.next_command(alloc)
+        let fed = read_line(alloc, &mut self.text, self.rest.bytes())?;
+        self.rest.clear();
+        Ok(fed)
     }
 
     /// Whether an `@add` stands without its `@end` in what was read.
@@ -167,26 +168,24 @@ impl Lines {
         ensures kept { IsEndOf self.old.rest self.new.rest }
         ensures err { OnErr result (self.new ≡ self.old) }
     {
-        let fed = read_line(alloc, &mut self.text, self.rest.bytes(), len)?;
+        let fed = read_line(alloc, &mut self.text, &self.rest.bytes()[..len])?;
         self.rest.advance(len + 1);
         Ok(fed)
     }
 }
 
-/// What a line of so many bytes says, which stands in front with its line end.
+/// What a line without its line end says.
 fn read_line(
     alloc: Global,
     text: &mut Option<Text>,
-    bytes: &[u8],
-    len: usize,
+    line: &[u8],
 ) -> Result<Fed, OutOfMemory>
-    requires { IsLineLen bytes.now len }
-    ensures said { IfOk result (λ fed. IsOnly (Says text.old (take len bytes.now)) (item_of fed, text.new)) }
+    ensures said { IfOk result (λ fed. IsOnly (Says text.old line.now) (item_of fed, text.new)) }
     ensures err { OnErr result (text.new ≡ text.old) }
 {
     match text.take() {
-        None => read_outside(alloc, text, &bytes[..len]),
-        Some(lines) => read_inside(text, lines, bytes, len),
+        None => read_outside(alloc, text, line),
+        Some(lines) => read_inside(text, lines, line),
     }
 }
 
@@ -207,24 +206,22 @@ fn read_outside(alloc: Global, text: &mut Option<Text>, line: &[u8]) -> Result<F
     }
 }
 
-/// What a line of so many bytes says, which stands in front with its line end, inside a text.
+/// What a line says inside a text.
 fn read_inside(
     text: &mut Option<Text>,
     mut lines: Text,
-    bytes: &[u8],
-    len: usize,
+    line: &[u8],
 ) -> Result<Fed, OutOfMemory>
-    requires none { text.old ≡ None }
-    requires line { IsLineLen bytes.now len }
-    ensures said { IfOk result (λ fed. IsOnly (Says (Some lines) (take len bytes.now)) (item_of fed, text.new)) }
+    requires { text.old ≡ None }
+    ensures said { IfOk result (λ fed. IsOnly (Says (Some lines) line.now) (item_of fed, text.new)) }
     ensures err { OnErr result (text.new ≡ Some lines) }
 {
-    if ends_text(&bytes[..len]) {
+    if ends_text(line) {
         return Ok(Fed::Command(Command::Add {
             text: lines.into_bytes(),
         }));
     }
-    let added = lines.add(&bytes[..len + 1]);
+    let added = lines.add_line(line);
     *text = Some(lines);
     added?;
     Ok(Fed::NotYet)

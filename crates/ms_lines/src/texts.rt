@@ -1,5 +1,5 @@
 // The text of an `@add`.
-ghost use Rattle.std.specs.Prelude.{◌≡◌, ◌≤◌, [], ◌++◌, length, take_while, OnOk, OnErr};
+ghost use Rattle.std.specs.Prelude.{◌≡◌, ◌≤◌, [], ◌∷◌, ◌++◌, length, take_while, OnOk, OnErr};
 ghost use Rattle.std.specs.List.{list_all};
 ghost use Rattle.ms_call.specs.Lines.{is_edge, skipped, ends_text};
 
@@ -31,13 +31,20 @@ impl Text {
         }
     }
 
-    /// Adds a line with its line end.
-    pub fn add(&mut self, line: &[u8]) -> Result<(), OutOfMemory>
-        ensures ok { OnOk result (self.new ≡ self.old ++ line.now) }
+    /// Adds a line that comes without its line end.
+    pub fn add_line(&mut self, line: &[u8]) -> Result<(), OutOfMemory>
+        ensures ok { OnOk result (self.new ≡ self.old ++ line.now ++ 10 ∷ []) }
         ensures err { OnErr result (self.new ≡ self.old) }
     {
+        let before = self.bytes.len();
         self.bytes.extend_from_slice(line)?;
-        Ok(())
+        match self.bytes.push(b'\n') {
+            Ok(()) => Ok(()),
+            Err(_) => {
+                self.bytes.truncate(before);
+                Err(OutOfMemory)
+            }
+        }
     }
 
     pub fn into_bytes(self) -> Bytes
