@@ -1,4 +1,4 @@
-use ms_lex::{LexFault, TokenKind, lex};
+use ms_lex::{LexFault, TokenKind, is_blank_text, lex};
 use std::test::Fail;
 
 /// A text, and the kinds, places and lines of its tokens.
@@ -289,5 +289,20 @@ fn finds_bad_bytes(rt: HostRuntime) {
         };
         let fault = lex(rt.alloc(), row.text).err();
         assert!(rt; fault == Some(want), "at {}", row.message);
+    }
+}
+
+#[test]
+fn knows_blank_texts(rt: HostRuntime) {
+    let rows = [
+        (b"".as_slice(), true),
+        (b" \t\r\n", true),
+        (b" % a. \n\t%", true),
+        (b"% a.\n b", false),
+        (b"a", false),
+        (b" ?", false),
+    ];
+    for (text, blank) in rows {
+        assert_eq!(rt; is_blank_text(text), blank, "{text:?}");
     }
 }

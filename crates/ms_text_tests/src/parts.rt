@@ -176,6 +176,12 @@ fn texts_have_these_core_rules(rt: HostRuntime) -> Result<(), Fail> {
             "a((1,2)) :-. b((1,2)) :-.",
             "a part in two places",
         ),
+        (
+            "#program s(a,b,c,d,e,f,g,h,i,j). p(j,a,k,i,b). #program s(j,i,h,g,f,e,d,c,b,a). q(j,a).",
+            "s(1,2,3,4,5,6,7,8,9,10)",
+            "p(10,1,k,9,2) :-. q(1,10) :-.",
+            "many parameters",
+        ),
         ("a. #program s(p). b.", "t(1)", "", "an unknown part"),
         (
             "a. #program s(p). b.",
