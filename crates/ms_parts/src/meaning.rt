@@ -1,5 +1,5 @@
 // What names stand for in a call of a part.
-ghost use Rattle.std.specs.Prelude.{◌≡◌};
+ghost use Rattle.std.specs.Prelude.{◌≡◌, slice_get};
 ghost use Rattle.std.specs.Option.{option_copied};
 ghost use Rattle.ms_core.specs.Texts.{value_in, paired};
 ghost use Rattle.ms_parts.specs.Meanings.{meant};
@@ -31,6 +31,13 @@ impl<'a> Meanings<'a> {
         ensures { option_copied result ≡ value_in (paired self.now.params.now self.now.args.now) name.now }
     {
         let place = self.params.place(name)?;
-        self.args.get(place)
+        value_at(self.args, place)
     }
+}
+
+/// The value at a place.
+fn value_at(args: &[Value], place: usize) -> Option<&Value>
+    ensures { option_copied result ≡ slice_get args.now place }
+{
+    args.get(place)
 }
