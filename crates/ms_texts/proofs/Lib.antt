@@ -4,3 +4,4 @@ pub mod NamedValues
 pub mod ParamLaws
 pub mod Second
 pub mod TextLaws
+pub mod ShowLaws

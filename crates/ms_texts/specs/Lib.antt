@@ -1,3 +1,4 @@
 pub mod Params
 pub mod Sections
 pub mod Additions
+pub mod Shows

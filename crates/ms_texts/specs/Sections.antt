@@ -49,7 +49,7 @@ items_or_none (Some v) = v.items
 abbrev pub places_in : {A : Type 0} → List ℕ → List (Vec ℕ A × Vec ℕ A) → List ℕ
 places_in name entries = items_or_none (lookup (λ key. pointwise nat_eq name key.items) entries)
 
-abbrev pub entries_or_none : {A S : Type 0} → Option (IndexMap (Vec ℕ A) (Vec ℕ A) S) → List (Vec ℕ A × Vec ℕ A)
+abbrev pub entries_or_none : {A V S : Type 0} → Option (IndexMap (Vec ℕ A) V S) → List (Vec ℕ A × V)
 entries_or_none None = []
 entries_or_none (Some m) = m.entries
 

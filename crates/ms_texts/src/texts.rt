@@ -10,7 +10,7 @@ use crate::constants::Constants;
 use crate::fault::TextFault;
 use crate::part_sections::PartSections;
 use crate::sections::Sections;
-use crate::shows::{Show, shown_by, shows_in};
+use crate::shows::{Shows, shows_in};
 use crate::split::sections_of;
 use crate::values::value_in;
 use ms_base::memory::OutOfMemory;
@@ -26,7 +26,7 @@ use std::marker::Model;
 pub struct Texts {
     sections: Sections,
     constants: Constants,
-    shows: Vec<Show>,
+    shows: Shows,
     given: Vec<(Bytes, Value)>,
     alloc: Global,
 }
@@ -44,7 +44,7 @@ impl Model for Texts {
 
     ghost view = { λ t. record { said = t.sections; given = t.given.items } };
 
-    ghost invariant = { λ t. AreOf t.sections t.constants t.shows.items };
+    ghost invariant = { λ t. AreOf t.sections t.constants t.shows };
 }
 
 impl Texts {
@@ -55,7 +55,7 @@ impl Texts {
         Texts {
             sections: Sections::new(alloc),
             constants: Constants::new(alloc),
-            shows: Vec::new(alloc),
+            shows: Shows::new(alloc),
             given: Vec::new(alloc),
             alloc,
         }
@@ -101,11 +101,11 @@ impl Texts {
     }
 
     /// Whether atoms of this name and number of arguments are shown: all are where there is no `#show`. It costs
-    /// a walk over what the `#show` statements say.
+    /// two look-ups.
     pub fn shows(&self, name: &[u8], arity: usize) -> bool
         ensures { result ≡ shows self.now name.now arity }
     {
-        shown_by(self.shows.as_slice(), name, arity)
+        self.shows.shows(name, arity)
     }
 
     /// The sections of the parts that have this name and so many parameters, in the order of the texts. It costs
@@ -121,18 +121,18 @@ impl Texts {
 fn say(
     alloc: Global,
     sections: &mut Sections,
-    shows: &mut Vec<Show>,
+    shows: &mut Shows,
     list: Statements,
 ) -> Result<(), OutOfMemory>
     ensures said { OnOk result (sections.new ≡ sections.old ++ said_from base_part list) }
-    ensures shown { OnOk result (shows.new.items ≡ shows.old.items ++ shows_in list) }
+    ensures shown { OnOk result (shows.new ≡ shows.old ++ shows_in list) }
     ensures unsaid { OnErr result (sections.new ≡ sections.old) }
-    ensures unshown { OnErr result (shows.new.items ≡ shows.old.items) }
+    ensures unshown { OnErr result (shows.new ≡ shows.old) }
 {
-    let mut more = shows_in(alloc, list.as_slice())?;
+    let more = shows_in(alloc, list.as_slice())?;
     let made = sections_of(alloc, list)?;
     let before = shows.len();
-    shows.append(&mut more)?;
+    shows.append(alloc, more)?;
     match sections.append(alloc, made) {
         Ok(()) => Ok(()),
         Err(fault) => {

@@ -5,6 +5,6 @@ use Rattle.ms_texts.proofs.texts.Texts.shows.Goals as goal
 
 pub returns : goal.returns
 returns c =
-    c.shown_by.ensures
-    ∙ ap (shown_by c.args.name.now c.args.arity) (c.as_slice.ensures.value ∙ c.self.invariant.shows_are ∙ ap (λ t. shows_of t.said) c.self.view_is)
+    c.shows.ensures
+    ∙ ap (shown_by c.args.name.now c.args.arity) (c.self.invariant.shows_are ∙ ap (λ t. shows_of t.said) c.self.view_is)
     ∙ shows_by c.args.name.now c.args.arity c.args.self.now
