@@ -1,3 +1,4 @@
 pub mod Closing
 pub mod Brackets
 pub mod Machine
+pub mod Kept
