@@ -1,6 +1,5 @@
 pub mod InLine
 pub mod NameLens
-pub mod Numbers
 pub mod Reading
 pub mod Steps
 pub mod Strings

@@ -1,7 +1,8 @@
 // Numbers in decimal digits.
-ghost use Rattle.std.specs.Prelude.{◌≡◌, ◌<◌, ◌≤◌, ◌^◌, IsTrue, length, drop, slice_index, take_while, All, MatchOption, IfSome};
-ghost use Rattle.ms_text.specs.Tokens.{is_digit, number_of, number_token};
+ghost use Rattle.std.specs.Prelude.{◌≡◌, ◌<◌, ◌≤◌, IsTrue, length, drop, slice_index, take_while, IfSome};
+ghost use Rattle.ms_text.specs.Tokens.{is_digit, number_token};
 
+use ms_text::number::number_of;
 use ms_text::token::TokenKind;
 
 /// The greatest number, which together with a minus sign is the least 64-bit integer.
@@ -29,17 +30,4 @@ fn digits_len(text: &[u8]) -> usize
     ensures within { result ≤ length text.now }
 {
     text.iter().take_while(|byte| byte.is_ascii_digit()).count()
-}
-
-/// The number that decimal digits stand for, where it is below 2^64.
-fn number_of(digits: &[u8]) -> Option<u64>
-    requires { All (λ b. IsTrue (is_digit b)) digits.now }
-    ensures { MatchOption result (2 ^ 64 ≤ number_of digits.now) (λ n. n ≡ number_of digits.now) }
-{
-    let mut number: u64 = 0;
-    for digit in digits {
-        let tens = number.checked_mul(10)?;
-        number = tens.checked_add(u64::from(*digit - b'0'))?;
-    }
-    Some(number)
 }

@@ -1,11 +1,12 @@
 // What tokens say that stand by themselves: names, numbers and signs.
-ghost use Rattle.std.specs.Prelude.{◌≡◌, ◌-◌, ◌^◌, ◌≤◌, ◌<◌, min, length, IfOk};
+ghost use Rattle.std.specs.Prelude.{◌≡◌, ◌≤◌, length, IfOk};
 ghost use Rattle.ms_text.specs.Tokens.{number_of};
 ghost use Rattle.ms_grammar.specs.Words.{word_of};
 ghost use Rattle.ms_lines.specs.Words.{is_name, name_in, number_in, within_most};
 
 use ms_base::memory::OutOfMemory;
 use ms_base::seq::Bytes;
+use ms_text::number::number_of;
 use ms_text::token::{Token, TokenKind};
 use std::alloc::Global;
 
@@ -29,7 +30,6 @@ pub(crate) fn name_of(
 pub(crate) fn number_in(text: &[u8], token: Token, most: u64) -> Option<u64>
     requires ordered { token.start ≤ token.end }
     requires within { token.end ≤ length text.now }
-    requires small { most < 2 ^ 63 }
     ensures { result ≡ number_in most (word_of text.now token) }
 {
     match token.kind {
@@ -40,23 +40,10 @@ pub(crate) fn number_in(text: &[u8], token: Token, most: u64) -> Option<u64>
 
 /// The number that decimal digits stand for, where it is from 1 to a greatest one.
 fn number_within(digits: &[u8], most: u64) -> Option<u64>
-    requires { most < 2 ^ 63 }
     ensures { result ≡ within_most most (number_of digits.now) }
 {
-    let number = number_of(digits);
+    let number = number_of(digits)?;
     (1 <= number && number <= most).then_some(number)
-}
-
-/// The number that decimal digits stand for, or the greatest u64 where it is above that.
-fn number_of(digits: &[u8]) -> u64
-    ensures { result ≡ min (number_of digits.now) (2 ^ 64 - 1) }
-{
-    let mut number: u64 = 0;
-    for digit in digits {
-        let tens = number.saturating_mul(10);
-        number = tens.saturating_add(u64::from(digit.saturating_sub(b'0')));
-    }
-    number
 }
 
 /// Whether the token is this name.

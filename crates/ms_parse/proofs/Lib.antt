@@ -1,7 +1,6 @@
 mod PieceLemmas
 mod Exact
 mod SignLemmas
-mod Digits
 mod NameLemmas
 mod Lines
 mod Apart

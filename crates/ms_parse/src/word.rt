@@ -1,12 +1,12 @@
 // What tokens say that stand by themselves: names and numbers.
-ghost use Rattle.std.specs.Prelude.{◌≡◌, ◌≤◌, length, IfOk, MatchOption, ◌<◌};
+ghost use Rattle.std.specs.Prelude.{◌≡◌, ◌≤◌, length, IfOk};
 ghost use Rattle.ms_text.specs.Tokens.{number_of};
-ghost use Rattle.ms_grammar.specs.Words.{word_of};
-ghost use Rattle.ms_grammar.specs.Terms.{greatest_numeral};
+ghost use Rattle.ms_grammar.specs.Words.{number, word_of};
 ghost use Rattle.ms_parse.specs.Words.{is_name, name_in, numeral_in};
 
 use ms_base::memory::OutOfMemory;
 use ms_base::seq::{Bytes, Seq};
+use ms_text::number::number_of;
 use ms_text::token::{Token, TokenKind};
 use std::alloc::Global;
 
@@ -36,20 +36,16 @@ pub(crate) fn numeral_of(text: &[u8], token: Token) -> Option<u64>
     ensures { result ≡ numeral_in (word_of text.now token) }
 {
     match token.kind {
-        TokenKind::Number => number_of(&text[token.start..token.end]),
+        TokenKind::Number => numeral(&text[token.start..token.end]),
         _ => None,
     }
 }
 
-// The number that decimal digits stand for, where it is no greater than it may be.
-fn number_of(digits: &[u8]) -> Option<u64>
-    ensures { MatchOption result (greatest_numeral < number_of digits.now) (λ n. (n ≡ number_of digits.now) × (n ≤ greatest_numeral)) }
+/// The number that decimal digits stand for, where it is no greater than it may be.
+fn numeral(digits: &[u8]) -> Option<u64>
+    ensures { result ≡ numeral_in (number (number_of digits.now)) }
 {
-    let mut number: u64 = 0;
-    for digit in digits {
-        let tens = number.checked_mul(10)?;
-        number = tens.checked_add(u64::from(digit.saturating_sub(b'0')))?;
-    }
+    let number = number_of(digits)?;
     (number <= GREATEST).then_some(number)
 }
 

@@ -1,4 +1,3 @@
-mod Numbers
 mod Strings
 mod Closings
 mod Running

@@ -12,7 +12,6 @@ mod bracket;
 mod frames;
 mod level;
 mod make;
-mod number;
 mod reader;
 mod row;
 mod string;

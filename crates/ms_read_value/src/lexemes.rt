@@ -3,7 +3,7 @@ ghost use Rattle.std.specs.Prelude.{◌≡◌, ◌≤◌, length, IfOk};
 ghost use Rattle.ms_grammar.specs.Words.{word_of, within_quotes};
 ghost use Rattle.ms_read_value.specs.Lexemes.{lexeme_of};
 
-use crate::numbers::number_of;
+use crate::numbers::saturated;
 use crate::strings::unescaped;
 use ms_base::memory::OutOfMemory;
 use ms_base::seq::Bytes;
@@ -37,7 +37,7 @@ pub(crate) fn lexeme_at(alloc: Global, text: &[u8], token: Token) -> Result<Lexe
     let bytes = &text[token.start..token.end];
     Ok(match token.kind {
         TokenKind::Name => Lexeme::Name(Bytes::copied(alloc, bytes)?),
-        TokenKind::Number => Lexeme::Number(number_of(bytes)),
+        TokenKind::Number => Lexeme::Number(saturated(bytes)),
         TokenKind::Text => Lexeme::Text(unescaped(alloc, within_quotes(text, token))?),
         TokenKind::Minus => Lexeme::Minus,
         TokenKind::Comma => Lexeme::Comma,

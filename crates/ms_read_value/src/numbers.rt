@@ -1,21 +1,20 @@
-// Numbers in decimal digits, and the values that they are.
+// Numbers, and the values that they are.
 ghost use Rattle.std.specs.Prelude.{◌≡◌, ◌-◌, ◌^◌, min};
 ghost use Rattle.ms_text.specs.Tokens.{number_of};
 ghost use Rattle.ms_grammar.specs.Values.{value_part, numeral, negative};
 
 use ms_grammar::part::ValuePart;
 use ms_grammar::value::Value;
+use ms_text::number::number_of;
 
 /// The number that digits stand for, or the greatest u64 where it is above that.
-pub(crate) fn number_of(digits: &[u8]) -> u64
+pub(crate) fn saturated(digits: &[u8]) -> u64
     ensures { result ≡ min (number_of digits.now) (2 ^ 64 - 1) }
 {
-    let mut number: u64 = 0;
-    for digit in digits {
-        let tens = number.saturating_mul(10);
-        number = tens.saturating_add(u64::from(digit.saturating_sub(b'0')));
+    match number_of(digits) {
+        Some(number) => number,
+        None => u64::MAX,
     }
-    number
 }
 
 /// A number without a sign, where it isn't greater than a value may be.

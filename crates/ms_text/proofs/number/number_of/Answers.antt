@@ -1,6 +1,6 @@
 use Rattle.std.proofs.Common.{◌≤◌, ◌+◌, ◌-◌, ◌*◌, ◌^◌, get_or, arith}
-use Rattle.ms_lex.proofs.Numbers.{number_of-at_least}
-use Rattle.ms_lex.proofs.number.number_of.Goals as goal
+use Rattle.ms_text.proofs.Numbers.{number_of-at_least}
+use Rattle.ms_text.proofs.number.number_of.Goals as goal
 
 pub returns-in_err-tens : goal.returns-in_err-tens
 returns-in_err-tens c =

@@ -2,8 +2,9 @@
 ghost use Rattle.std.specs.Prelude.{◌≡◌, ◌≤◌, ◌^◌, MatchOption};
 ghost use Rattle.ms_text.specs.Tokens.{number_of};
 
-/// The number that decimal digits stand for, where it is below 2^64.
-pub(crate) fn number_of(digits: &[u8]) -> Option<u64>
+/// The number that decimal digits stand for, or none exactly where it is above the greatest `u64`.
+/// No digits stand for 0.
+pub fn number_of(digits: &[u8]) -> Option<u64>
     ensures { MatchOption result (2 ^ 64 ≤ number_of digits.now) (λ n. n ≡ number_of digits.now) }
 {
     let mut number: u64 = 0;
