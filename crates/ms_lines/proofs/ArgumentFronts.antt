@@ -7,11 +7,11 @@ use Rattle.ms_grammar.specs.Words.{Word, sign, words_of}
 use Rattle.ms_grammar.specs.Values.{Spelling, numeral, negative, string, constant, no_arguments, function, empty_tuple, tuple, tuple_comma, value_words}
 use Rattle.ms_grammar.specs.Reading.{EndsValue}
 use Rattle.ms_call.specs.Commands.{IsValue, AreArguments}
-use Rattle.ms_lines.specs.Signs.{Begins, BeginsNot}
+use Rattle.ms_words.specs.Signs.{Begins, BeginsNot}
 use Rattle.ms_lines.specs.Finding.{Finds, IsOnly, IsFront, AreClosed, AreSomeClosed}
 use Rattle.ms_lines.proofs.Fronts.{words_of-drop, length-words_of, front_rest}
 use Rattle.ms_lines.proofs.ValueFronts.{is_value_some}
-use Rattle.ms_lines.proofs.SignLemmas.{words_begin, words_begin_not}
+use Rattle.ms_words.proofs.SignLemmas.{words_begin, words_begin_not}
 use Rattle.ms_lines.proofs.Sequences.{cons-not-nil}
 
 -- no value begins with `)`

@@ -7,12 +7,14 @@ use Rattle.ms_grammar.specs.Words.{Word, name, sign, word_of, words_of}
 use Rattle.ms_grammar.specs.Reading.{EndsValue}
 use Rattle.ms_call.specs.declared.command.Call.{Call}
 use Rattle.ms_call.specs.Commands.{IsCall, AreArguments}
-use Rattle.ms_lines.specs.Words.{name_in, carries_on, call_with}
-use Rattle.ms_lines.specs.Signs.{Begins, BeginsNot}
+use Rattle.ms_words.specs.Words.{name_in}
+use Rattle.ms_words.specs.Signs.{Begins, BeginsNot}
+use Rattle.ms_lines.specs.Words.{carries_on, call_with}
 use Rattle.ms_lines.specs.Finding.{Finds, IsOnly, IsFront, AreClosed, IsCallAfter}
+use Rattle.ms_words.proofs.SignLemmas.{words_begin, words_begin_not}
+use Rattle.ms_words.proofs.NameLemmas.{name_from_word, no_name_from_word}
 use Rattle.ms_lines.proofs.Fronts.{words_of-drop, length-words_of}
 use Rattle.ms_lines.proofs.ValueFronts.{ends_from_tokens, carries_from_tokens}
-use Rattle.ms_lines.proofs.SignLemmas.{words_begin, words_begin_not}
 use Rattle.ms_lines.proofs.Sequences.{cons-not-nil, no_words}
 
 -- a call doesn't carry on a value before it, and it has a word
@@ -147,24 +149,16 @@ module _ (text : List ℕ) (f : List ℕ) (after : List Token) where
   call_with_arguments inside b found h r e =
       subst (λ ws. Finds (IsCallAfter f ws) r) (sym (words_begin text LeftParen (λ t. refl) after inside b)) (subst (Finds (IsCallAfter f (sign LeftParen ∷ words_of text inside))) (sym e) (call_found text f inside found h))
 
--- the name in front
-name_word : (w : Word) (f : List ℕ) → name_in w ≡ Some f → w ≡ name f
-name_word (name g) f e = let same : g ≡ f = cc in ap name same
-name_word _ f e = cc
-
-no_name_word : (w : Word) → name_in w ≡ None → (f : List ℕ) → w ≡ name f → ⊥
-no_name_word (name g) e f h = cc
-no_name_word _ e f h = cc
-
+-- a word in front that is no name
 no_call_by : (w : Word) (ws : List Word) → name_in w ≡ None → (g : Call × ℕ) (first rest : List Word) → w ∷ ws ≡ first ++ rest → IsCall first g.0 → ⊥
 no_call_by w ws none g first rest e (inl is) =
     let whole : w ∷ ws ≡ name g.0.name ∷ rest = e ∙ ap (λ xs. xs ++ rest) is.0 in
     let same : w ≡ name g.0.name = cc in
-    no_name_word w none g.0.name same
+    no_name_from_word w none g.0.name same
 no_call_by w ws none g first rest e (inr is) =
     let whole : w ∷ ws ≡ name g.0.name ∷ (sign LeftParen ∷ is.0 ++ sign RightParen ∷ []) ++ rest = e ∙ ap (λ xs. xs ++ rest) is.1 in
     let same : w ≡ name g.0.name = cc in
-    no_name_word w none g.0.name same
+    no_name_from_word w none g.0.name same
 
 pub call_at_end : (g : Call × ℕ) → IsFront IsCall [] g → ⊥
 call_at_end g front = call_some g.0 (subst (λ ws. IsCall ws g.0) (no_words front.first front.rest front.words_are) front.is)
@@ -178,5 +172,5 @@ module _ (text : List ℕ) (tokens : List Token) where
     call_no_name none g front = no_call_by (word_of text first) (words_of text after) none g front.first front.rest (sym (ap (words_of text) e) ∙ front.words_are) front.is
 
     pub call_named : {E : Type 0} (f : List ℕ) → name_in (word_of text first) ≡ Some f → (r : Result (Option (Call × ℕ)) E) → IfOk r (Finds (IsCallAfter f (words_of text after))) → IfOk r (Finds (IsFront IsCall (words_of text tokens)))
-    call_named f is (Ok found) h = subst (λ ws. Finds (IsFront IsCall ws) found) (ap (λ w. w ∷ words_of text after) (sym (name_word (word_of text first) f is)) ∙ sym (ap (words_of text) e)) h
+    call_named f is (Ok found) h = subst (λ ws. Finds (IsFront IsCall ws) found) (ap (λ w. w ∷ words_of text after) (sym (name_from_word (word_of text first) f is)) ∙ sym (ap (words_of text) e)) h
     call_named f is (Err error) h = tt

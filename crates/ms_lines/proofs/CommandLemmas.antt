@@ -12,10 +12,11 @@ use Rattle.ms_base.specs.declared.truth.Truth.TheVariants.{True, False, Free}
 use Rattle.ms_call.specs.declared.command.Command.{Command}
 use Rattle.ms_call.specs.declared.command.Command.TheVariants.{Add, Ground, Assign, Release, Solve}
 use Rattle.ms_call.specs.Commands.{IsSaid, IsAssign, IsAtom, IsCall, AreSome, truth_name}
-use Rattle.ms_lines.specs.Words.{is_name, release, truth_in}
+use Rattle.ms_words.specs.Words.{is_name}
+use Rattle.ms_lines.specs.Words.{release, truth_in}
 use Rattle.ms_lines.specs.Finding.{Finds, IsOnly, IsFront}
 use Rattle.ms_lines.proofs.Fronts.{words_of-drop, length-words_of, front_rest}
-use Rattle.ms_lines.proofs.NameLemmas.{other_text, is_name-same}
+use Rattle.ms_words.proofs.NameLemmas.{other_text, is_name-same}
 
 -- a command of each word
 only_ground : (P : Command → Type 0) (ws : List Word) → ((calls : List Call) → AreSome IsCall ws calls → P (Ground calls)) → (v : Command) → IsSaid (codes "ground") ws v → P v

@@ -2,11 +2,9 @@ pub mod Fronts
 pub mod ValueFronts
 pub mod Sequences
 pub mod LiteralFronts
-pub mod SignLemmas
 pub mod Scanning
 pub mod ArgumentFronts
 pub mod CallFronts
-pub mod NameLemmas
 pub mod SolveLemmas
 pub mod CommandLemmas
 pub mod LineKinds

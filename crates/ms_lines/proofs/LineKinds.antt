@@ -17,7 +17,7 @@ use Rattle.ms_lines.specs.declared.kinds.LineKind.{LineKind}
 use Rattle.ms_lines.specs.declared.kinds.LineKind.TheVariants.{Passed, OpensText as opens_text, Command as is_command, Bad}
 use Rattle.ms_lines.specs.Kinds.{IsKind, HasNoSign, is_text, is_command_word}
 use Rattle.ms_lines.specs.Finding.{IsOnly}
-use Rattle.ms_lines.proofs.NameLemmas.{same_text, other_text}
+use Rattle.ms_words.proofs.NameLemmas.{same_text, other_text}
 use Rattle.ms_lines.proofs.Sequences.{cons-not-nil}
 
 -- An at sign begins no token.

@@ -10,8 +10,8 @@ use Rattle.ms_call.specs.Commands.{IsAtom, IsLiteral, BeginsWithName, sign_words
 use Rattle.ms_lines.specs.Words.{plain, negated}
 use Rattle.ms_lines.specs.Finding.{Finds, IsFront}
 use Rattle.ms_lines.proofs.ValueFronts.{ends_at_name}
-use Rattle.ms_lines.specs.Signs.{Begins, BeginsNot}
-use Rattle.ms_lines.proofs.SignLemmas.{words_begin, words_begin_not}
+use Rattle.ms_words.specs.Signs.{Begins, BeginsNot}
+use Rattle.ms_words.proofs.SignLemmas.{words_begin, words_begin_not}
 use Rattle.ms_lines.proofs.Sequences.{cons-not-nil}
 
 signed_ends : (truth : Bool) (ws rest : List Word) → BeginsWithName ws → EndsValue ((sign_words truth ++ ws) ++ rest)

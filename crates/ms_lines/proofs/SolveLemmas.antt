@@ -11,12 +11,13 @@ use Rattle.ms_call.specs.declared.command.Command.{Command}
 use Rattle.ms_call.specs.declared.command.Command.TheVariants.{Add, Ground, Assign, Release, Solve}
 use Rattle.ms_base.specs.Limits.{most_answers, greatest_limit}
 use Rattle.ms_call.specs.Commands.{IsSaid, IsSolve, IsCount, IsLimit, IsAssume, AreSome, IsLiteral}
-use Rattle.ms_lines.specs.Words.{is_name, number_in, count_in}
-use Rattle.ms_lines.specs.Signs.{Begins, BeginsNot, NameComes, NameComesNot}
+use Rattle.ms_words.specs.Words.{is_name}
+use Rattle.ms_lines.specs.Words.{number_in, count_in}
+use Rattle.ms_words.specs.Signs.{Begins, BeginsNot, NameComes, NameComesNot}
 use Rattle.ms_lines.specs.Limits.{HasLimit, HasNoLimit, LimitIs}
 use Rattle.ms_lines.specs.Finding.{Finds, IsOnly}
-use Rattle.ms_lines.proofs.SignLemmas.{words_begin, words_begin_not}
-use Rattle.ms_lines.proofs.NameLemmas.{other_text, is_name-same, name_begins, name_begins_not}
+use Rattle.ms_words.proofs.SignLemmas.{words_begin, words_begin_not}
+use Rattle.ms_words.proofs.NameLemmas.{other_text, is_name-same, name_begins, name_begins_not}
 use Rattle.ms_lines.proofs.Sequences.{cons-not-nil, no_tokens}
 
 -- a number within its bounds

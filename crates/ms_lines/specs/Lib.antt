@@ -1,5 +1,4 @@
 pub mod Words
-pub mod Signs
 pub mod Limits
 pub mod Finding
 pub mod Buffers

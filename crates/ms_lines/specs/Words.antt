@@ -1,13 +1,13 @@
 -- What words and kinds of tokens say that stand by themselves.
-use Rattle.std.specs.Prelude.{ℕ, ◌+◌, ◌-◌, nat_eq, nat_le, ◌==◌, Bool, true, false, ◌&&◌, if◌then◌else◌, List, [], ◌∷◌, length, drop, Option, Some, None, codes}
+use Rattle.std.specs.Prelude.{ℕ, ◌+◌, ◌-◌, nat_le, ◌==◌, Bool, true, false, ◌&&◌, if◌then◌else◌, List, [], ◌∷◌, length, drop, Option, Some, None, codes}
 use Rattle.std.specs.Option.{option_map}
-use Rattle.std.specs.Cmp.Lexicographic.{pointwise}
 use Rattle.ms_text.specs.declared.token.Token.{Token}
 use Rattle.ms_text.specs.declared.token.TokenKind.{TokenKind}
 use Rattle.ms_text.specs.declared.token.TokenKind.TheVariants.{Name, LeftParen}
 use Rattle.ms_grammar.specs.declared.value.Value.{Value}
 use Rattle.ms_grammar.specs.declared.part.ValuePart.{ValuePart}
-use Rattle.ms_grammar.specs.Words.{Word, name, number}
+use Rattle.ms_grammar.specs.Words.{Word, number}
+use Rattle.ms_words.specs.Words.{is_name}
 use Rattle.ms_call.specs.declared.command.Call.{Call}
 use Rattle.ms_base.specs.declared.truth.Truth.{Truth}
 use Rattle.ms_base.specs.declared.truth.Truth.TheVariants.{True, False, Free}
@@ -15,14 +15,6 @@ use Rattle.ms_call.specs.declared.command.Assumption.{Assumption}
 use Rattle.ms_call.specs.declared.command.Command.{Command}
 use Rattle.ms_call.specs.declared.command.Command.TheVariants.{Release}
 use Rattle.ms_base.specs.Limits.{most_answers}
-
-abbrev pub name_in : Word → Option (List ℕ)
-name_in (name n) = Some n
-name_in w = None
-
-abbrev pub is_name : List ℕ → Word → Bool
-is_name n (name m) = pointwise nat_eq m n
-is_name n w = false
 
 abbrev pub within_most : ℕ → ℕ → Option ℕ
 within_most most n = if nat_le 1 n && nat_le n most then Some n else None

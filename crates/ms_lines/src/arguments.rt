@@ -3,14 +3,15 @@ ghost use Rattle.std.specs.Prelude.{◌≡◌, ◌<◌, List, length, IfOk, IfSo
 ghost use Rattle.ms_text.specs.Tokens.{LieWithin};
 ghost use Rattle.ms_grammar.specs.Words.{words_of};
 ghost use Rattle.ms_lines.specs.Finding.{Finds, AreClosed, AreSomeClosed};
-ghost use Rattle.ms_lines.specs.Signs.{Begins, BeginsNot};
+ghost use Rattle.ms_words.specs.Signs.{Begins, BeginsNot};
 ghost use Rattle.ms_text.specs.declared.token.Token.{Token};
 
-use crate::signs::{after_sign, tokens_after};
 use crate::values::read_value;
+use crate::words::tokens_after;
 use ms_base::memory::OutOfMemory;
 use ms_grammar::value::Values;
 use ms_text::token::{Token, TokenKind};
+use ms_words::signs::after_sign;
 use std::alloc::Global;
 
 /// The values up to a `)`, with the number of tokens behind it.

@@ -7,14 +7,15 @@ ghost use Rattle.ms_lines.specs.Finding.{Finds, FitWithin, IsFront, IsCallAfter}
 ghost use Rattle.ms_lines.specs.Words.{call_with};
 
 use crate::arguments::read_arguments;
-use crate::signs::{after_sign, tokens_after};
 use crate::values::carries_on;
-use crate::words::name_of;
+use crate::words::tokens_after;
 use ms_base::memory::OutOfMemory;
 use ms_base::seq::Bytes;
 use ms_call::command::{Call, Calls};
 use ms_grammar::value::Values;
 use ms_text::token::{Token, TokenKind};
+use ms_words::names::name_of;
+use ms_words::signs::after_sign;
 use std::alloc::Global;
 
 /// What all of the tokens spell: one or more calls.

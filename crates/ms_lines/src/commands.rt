@@ -8,14 +8,14 @@ ghost use Rattle.ms_lines.specs.Finding.{Finds};
 ghost use Rattle.ms_lines.specs.Words.{release, truth_in};
 
 use crate::calls::read_calls;
-use crate::signs::tokens_after;
 use crate::solve::read_solve;
 use crate::values::read_atom;
-use crate::words::is_name;
+use crate::words::tokens_after;
 use ms_base::memory::OutOfMemory;
 use ms_call::command::{Calls, Command, Truth};
 use ms_grammar::value::Value;
 use ms_text::token::Token;
+use ms_words::names::is_name;
 use std::alloc::Global;
 
 /// The command of this word and all of the tokens after it.

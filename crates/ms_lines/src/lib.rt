@@ -14,7 +14,6 @@ mod commands;
 mod kinds;
 mod literals;
 mod pieces;
-mod signs;
 mod solve;
 mod texts;
 mod values;

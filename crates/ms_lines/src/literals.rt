@@ -6,12 +6,13 @@ ghost use Rattle.ms_call.specs.Commands.{IsLiteral, AreSome};
 ghost use Rattle.ms_lines.specs.Finding.{Finds, FitWithin, IsFront};
 ghost use Rattle.ms_lines.specs.Words.{plain, negated};
 
-use crate::signs::{after_sign, tokens_after};
 use crate::values::read_atom;
+use crate::words::tokens_after;
 use ms_base::memory::OutOfMemory;
 use ms_call::command::{Assumption, Assumptions};
 use ms_grammar::value::Value;
 use ms_text::token::{Token, TokenKind};
+use ms_words::signs::after_sign;
 use std::alloc::Global;
 
 /// What all of the tokens spell: one or more literals.

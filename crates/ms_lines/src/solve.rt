@@ -9,12 +9,13 @@ ghost use Rattle.ms_lines.specs.Words.{count_in};
 ghost use Rattle.ms_lines.specs.Limits.{HasLimit, HasNoLimit, LimitIs};
 
 use crate::literals::read_literals;
-use crate::signs::{after_name, after_sign, tokens_after};
-use crate::words::{is_name, number_in};
+use crate::words::{number_in, tokens_after};
 use ms_base::limits::{GREATEST_LIMIT, MOST_ANSWERS, USUAL_LIMIT};
 use ms_base::memory::OutOfMemory;
 use ms_call::command::{Assumptions, Command};
 use ms_text::token::{Token, TokenKind};
+use ms_words::names::is_name;
+use ms_words::signs::{after_name, after_sign};
 use std::alloc::Global;
 
 /// What all of the tokens after `@solve` spell.

@@ -2,7 +2,6 @@
 use Rattle.std.proofs.Common.{◌≡◌, ℕ, nat_le, cond, Bool, true, false, List, [], ◌∷◌, ◌++◌, Option, Some, None, IfSome, IsSomeAnd, MatchOption, refl, sym, ap, ◌∙◌, subst, codes}
 use Rattle.std.specs.Bool.{then_some}
 use Rattle.std.specs.Option.{option_map, option_and_then}
-use Rattle.std.specs.Cmp.Lexicographic.{bytes_decides}
 use Rattle.ms_text.specs.declared.token.Token.{Token}
 use Rattle.ms_text.specs.declared.token.TokenKind.{TokenKind}
 use Rattle.ms_text.specs.declared.token.TokenKind.TheVariants.{Program, External, Const, Show, Include, Slash, Less, Greater}
@@ -13,12 +12,14 @@ use Rattle.ms_grammar.specs.declared.part.Counted.{Counted}
 use Rattle.ms_grammar.specs.Words.{Word, name, number, sign, word_by_kind, word_of, words_of}
 use Rattle.ms_grammar.specs.Terms.{greatest_numeral}
 use Rattle.ms_grammar.specs.Statements.{Atom, rule_spelled, Sentence, rule, program, external, const, show, show_none, include, sentence_spelled, alone, with_value, HeadPart, head_words, Tail, tail_words}
-use Rattle.ms_parse.specs.Words.{is_name, show_in, is_incmode}
+use Rattle.ms_words.specs.Words.{is_name}
+use Rattle.ms_parse.specs.Words.{show_in, is_incmode}
 use Rattle.ms_parse.specs.Content.{IsSpelled, IsExact, IsContent, IsRule, IsAtom, ConstLine, IsConstLine, ProgramLine, IsProgramLine, content_words}
+use Rattle.ms_words.proofs.NameLemmas.{is_name-same}
 use Rattle.ms_parse.proofs.Lines.{part_from}
 use Rattle.ms_parse.proofs.PlainStarts.{is_directive, StartsPlain, rule_plain}
 use Rattle.ms_parse.proofs.Rules.{rule_of_none}
-use Rattle.ms_parse.proofs.SignLemmas.{sign_from_kind}
+use Rattle.ms_words.proofs.SignLemmas.{sign_from_kind}
 
 -- no rule has these words
 no_rule : (h : HeadPart) (t : Tail) (w : Word) (ws : List Word) → is_directive w ≡ true → head_words h ++ tail_words t ≡ w ∷ ws → ⊥
@@ -147,12 +148,8 @@ content_of_show ws = content_of_line ShowLine Form show_words show_spelled Show 
   complete = λ l form words spelled. ap show_in (sym words) ∙ show_in-words l ∙ spelled;
 })
 
-incmode_name : (w : Word) → is_name (codes "incmode") w ≡ true → w ≡ name (codes "incmode")
-incmode_name (name n) e = ap name ((bytes_decides n (codes "incmode")).0 e)
-incmode_name _ e = cc
-
 include_words : (ws : List Word) → is_incmode ws ≡ true → ws ≡ sign Less ∷ name (codes "incmode") ∷ sign Greater ∷ []
-include_words (sign Less ∷ w ∷ sign Greater ∷ []) e = ap (λ v. sign Less ∷ v ∷ sign Greater ∷ []) (incmode_name w e)
+include_words (sign Less ∷ w ∷ sign Greater ∷ []) e = ap (λ v. sign Less ∷ v ∷ sign Greater ∷ []) (is_name-same (codes "incmode") w e)
 include_words _ e = absurd (let f : ⊥ = cc in f)
 
 include_only : (s : Sentence) (ws : List Word) → content_words s ≡ sign Include ∷ ws → (s ≡ include) × (sign Less ∷ name (codes "incmode") ∷ sign Greater ∷ [] ≡ ws)

@@ -7,9 +7,11 @@ use Rattle.ms_grammar.specs.declared.statement.Form.TheVariants.{Program, Const}
 use Rattle.ms_grammar.specs.Words.{Word, name, sign}
 use Rattle.ms_grammar.specs.Values.{value_words, value_part}
 use Rattle.ms_grammar.specs.Statements.{parameters_words, parameter_names}
-use Rattle.ms_parse.specs.Words.{name_in, parameters_in}
+use Rattle.ms_words.specs.Words.{name_in}
+use Rattle.ms_parse.specs.Words.{parameters_in}
 use Rattle.ms_parse.specs.Content.{IsProgramLine, ProgramLine, IsConstLine, IsValue}
-use Rattle.ms_parse.proofs.NameLemmas.{name_from_word, parameters_in-spelled, parameters_from}
+use Rattle.ms_words.proofs.NameLemmas.{name_from_word}
+use Rattle.ms_parse.proofs.NameLemmas.{parameters_in-spelled, parameters_from}
 
 abbrev Differ : List (List ℕ) → Type 0
 Differ names = AllPairs (λ p q. p ≢ q) names

@@ -4,11 +4,9 @@ use Rattle.std.specs.Option.{option_map}
 use Rattle.ms_text.specs.declared.token.TokenKind.TheVariants.{Comma, LeftParen, RightParen}
 use Rattle.ms_grammar.specs.Words.{Word, name, sign, separated}
 use Rattle.ms_grammar.specs.Statements.{Parameters, no_parameters, parameters, parameters_words, parameter_names}
-use Rattle.ms_parse.specs.Words.{name_in, names_in, names_after, names_within, parameters_in}
-
-pub name_from_word : (w : Word) (n : List ℕ) → name_in w ≡ Some n → w ≡ name n
-name_from_word (name m) n e = let same : m ≡ n = cc in ap name same
-name_from_word _ n e = cc
+use Rattle.ms_words.specs.Words.{name_in}
+use Rattle.ms_words.proofs.NameLemmas.{name_from_word}
+use Rattle.ms_parse.specs.Words.{names_in, names_after, names_within, parameters_in}
 
 pub names_in-name : (w : Word) (ws : List Word) (n : List ℕ) → name_in w ≡ Some n → names_in (w ∷ ws) ≡ option_map (λ ns. n ∷ ns) (names_after ws)
 names_in-name w ws n e = rw (name_from_word w n e) refl

@@ -4,10 +4,12 @@ use Rattle.std.specs.Option.{option_map}
 use Rattle.ms_text.specs.declared.token.Token.{Token}
 use Rattle.ms_text.specs.declared.token.TokenKind.TheVariants.{Comma, LeftParen, RightParen}
 use Rattle.ms_grammar.specs.Words.{word_of, words_of}
-use Rattle.ms_parse.specs.Signs.{Begins, BeginsNot}
-use Rattle.ms_parse.specs.Words.{name_in, names_in, names_after, parameters_in}
+use Rattle.ms_words.specs.Signs.{Begins, BeginsNot}
+use Rattle.ms_words.specs.Words.{name_in}
+use Rattle.ms_parse.specs.Words.{names_in, names_after, parameters_in}
 use Rattle.ms_parse.proofs.NameLemmas.{names_in-name, names_after-none, names_more, names_none, parameters_in-other}
-use Rattle.ms_parse.proofs.SignLemmas.{words_begin, words_begin_not, alone_from_words}
+use Rattle.ms_words.proofs.SignLemmas.{words_begin, words_begin_not}
+use Rattle.ms_parse.proofs.SignLemmas.{alone_from_words}
 
 -- The names are those of the tokens before the rest.
 abbrev pub AreNamesTo : List ℕ → List Token → List (List ℕ) → List Token → Type 0

@@ -8,7 +8,7 @@ use Rattle.ms_grammar.specs.declared.statement.Statement.{Statement}
 use Rattle.ms_grammar.specs.Statements.{pieces_of, IsStatement, AreStatements, IsBadLine, first_line}
 use Rattle.ms_parse.specs.Gives.{AreExactly}
 use Rattle.ms_parse.specs.Pieces.{IsFirstPiece}
-use Rattle.ms_parse.proofs.SignLemmas.{LiesWithin}
+use Rattle.ms_words.proofs.SignLemmas.{LiesWithin}
 
 -- The statements of the tokens go on with those of the rest.
 pub record GoOn (text : List ℕ) (rest : List Token) (statements all : List Statement) : Type 0 where

@@ -1,44 +1,22 @@
--- What words tell of the kind of token that comes first.
-use Rattle.std.proofs.Common.{◌≡◌, ℕ, ◌≤◌, ◌==◌, Bool, true, false, List, [], ◌∷◌, ◌++◌, length, drop, refl, ap, ◌∙◌, ◌<◌, arith, inl, inr, Option, Some, None, MatchOption}
+-- What words tell of separators and of signs that stand alone.
+use Rattle.std.proofs.Common.{◌≡◌, ℕ, ◌==◌, Bool, true, false, List, [], ◌∷◌, ◌++◌, length, refl, ap, ◌∙◌, ◌<◌, arith, inl, inr, Option, Some, None, MatchOption}
 use Rattle.std.proofs.lemmas.Bool.{eqb-true}
-use Rattle.std.proofs.lemmas.List.Elements.{All-rest, All-drop, All-take}
+use Rattle.std.proofs.lemmas.List.Elements.{All-take}
 use Rattle.std.proofs.Math.Seq.{take-append_seam}
 use Rattle.ms_text.specs.declared.token.Token.{Token}
 use Rattle.ms_text.specs.declared.token.TokenKind.{TokenKind}
-use Rattle.ms_text.specs.declared.token.TokenKind.TheVariants.{Name, Comma, Semicolon}
+use Rattle.ms_text.specs.declared.token.TokenKind.TheVariants.{Comma, Semicolon}
 use Rattle.ms_text.specs.Tokens.{LieWithin}
 use Rattle.ms_grammar.specs.Words.{Word, sign, word_by_kind, word_of, words_of}
 use Rattle.ms_grammar.specs.Statements.{separator}
-use Rattle.ms_parse.specs.Signs.{Begins, BeginsNot, Separates, SeparatesNot}
+use Rattle.ms_words.specs.Signs.{Begins, BeginsNot}
+use Rattle.ms_words.proofs.SignLemmas.{LiesWithin, kind_from_sign, words_begin, words_begin_not, after_within}
+use Rattle.ms_parse.specs.Signs.{Separates, SeparatesNot}
 
--- a token's bytes are among the first n
-abbrev pub LiesWithin : ℕ → Token → Type 0
-LiesWithin n t = (t.start ≤ t.end) × (t.end ≤ n)
-
-kind_of_sign : (k kind : TokenKind) (text : List ℕ) (t : Token) → word_by_kind k text t ≡ sign kind → k ≡ kind
-kind_of_sign Name kind text t e = cc
-kind_of_sign _ kind text t e = cc
-
-pub sign_from_kind : (text : List ℕ) (t : Token) (kind : TokenKind) → ((t : Token) → word_by_kind kind text t ≡ sign kind) → t.kind ≡ kind → word_of text t ≡ sign kind
-sign_from_kind text t kind says e = ap (λ k. word_by_kind k text t) e ∙ says t
-
-pub kind_from_sign : (text : List ℕ) (t : Token) (kind : TokenKind) → word_of text t ≡ sign kind → t.kind ≡ kind
-kind_from_sign text t kind e = kind_of_sign t.kind kind text t e
-
-module _ (text : List ℕ) where
-  pub words_begin : (kind : TokenKind) → ((t : Token) → word_by_kind kind text t ≡ sign kind) → (tokens rest : List Token) → Begins tokens kind rest → words_of text tokens ≡ sign kind ∷ words_of text rest
-  words_begin kind says tokens rest b = ap (words_of text) b.tokens_are ∙ ap (λ w. w ∷ words_of text rest) (sign_from_kind text b.first kind says b.kind_is)
-
-  pub words_begin_not : (kind : TokenKind) (tokens : List Token) → BeginsNot tokens kind → (ws : List Word) → words_of text tokens ≡ sign kind ∷ ws → ⊥
-  words_begin_not kind [] h ws e = cc
-  words_begin_not kind (t ∷ ts) h ws e =
-      let word : word_of text t ≡ sign kind = cc in
-      h ts (record { first = t; kind_is = kind_from_sign text t kind word; tokens_are = refl })
-
-  pub alone_from_words : (kind : TokenKind) (tokens : List Token) → words_of text tokens ≡ sign kind ∷ [] → Begins tokens kind []
-  alone_from_words kind [] e = absurd (let f : ⊥ = cc in f)
-  alone_from_words kind (t ∷ []) e = let word : word_of text t ≡ sign kind = cc in record { first = t; kind_is = kind_from_sign text t kind word; tokens_are = refl }
-  alone_from_words kind (t ∷ u ∷ ts) e = absurd (let f : ⊥ = cc in f)
+pub alone_from_words : (text : List ℕ) (kind : TokenKind) (tokens : List Token) → words_of text tokens ≡ sign kind ∷ [] → Begins tokens kind []
+alone_from_words text kind [] e = absurd (let f : ⊥ = cc in f)
+alone_from_words text kind (t ∷ []) e = let word : word_of text t ≡ sign kind = cc in record { first = t; kind_is = kind_from_sign text t kind word; tokens_are = refl }
+alone_from_words text kind (t ∷ u ∷ ts) e = absurd (let f : ⊥ = cc in f)
 
 -- a separator that comes first
 pub words_separate_not : (text : List ℕ) (tokens : List Token) → SeparatesNot tokens → (s : Bool) (ws : List Word) → words_of text tokens ≡ separator s ∷ ws → ⊥
@@ -71,13 +49,6 @@ pub some_words : (text : List ℕ) (tokens : List Token) → (length tokens == 0
 some_words text [] test e = cc
 some_words text (t ∷ ts) test e = cc
 
--- what follows a first token
-pub rest_within : (n : ℕ) (first : Token) (rest tokens : List Token) → tokens ≡ first ∷ rest → LieWithin n tokens → LieWithin n rest
-rest_within n first rest tokens e h = All-rest (LiesWithin n) first rest tokens e h
-
-pub after_within : (n : ℕ) (kind : TokenKind) (tokens rest : List Token) → Begins tokens kind rest → LieWithin n tokens → LieWithin n rest
-after_within n kind tokens rest b h = rest_within n b.first rest tokens b.tokens_are h
-
 pub separated_not : (tokens : List Token) → BeginsNot tokens Comma → BeginsNot tokens Semicolon → SeparatesNot tokens
 separated_not tokens comma semicolon rest (inl b) = comma rest b
 separated_not tokens comma semicolon rest (inr b) = semicolon rest b
@@ -91,9 +62,6 @@ module _ (X : Type 0) (now : X → List Token) where
 pub separator_within : (n : ℕ) (tokens rest : List Token) → Separates tokens rest → LieWithin n tokens → LieWithin n rest
 separator_within n tokens rest (inl b) h = after_within n Comma tokens rest b h
 separator_within n tokens rest (inr b) h = after_within n Semicolon tokens rest b h
-
-pub drop_within : (n count : ℕ) (tokens rest : List Token) → rest ≡ drop count tokens → LieWithin n tokens → LieWithin n rest
-drop_within n count tokens rest e h = rw e (All-drop (LiesWithin n) count tokens h)
 
 pub front_within : (n : ℕ) (content tokens : List Token) (last : Token) → tokens ≡ content ++ last ∷ [] → LieWithin n tokens → LieWithin n content
 front_within n content tokens last e h = rw (← take-append_seam content (last ∷ [])) (All-take (LiesWithin n) (length content) (content ++ last ∷ []) (rw e at h))

@@ -11,7 +11,7 @@ use Rattle.ms_grammar.specs.Words.{sign, word_of, words_of}
 use Rattle.ms_base.specs.Limits.{most_choices}
 use Rattle.ms_grammar.specs.Statements.{Sentence, rule, program, external, const, show, show_none, include, sentence_words, sentence_spelled, IsStatement, first_line, HasFewCopies}
 use Rattle.ms_parse.specs.Content.{IsSpelled, IsContent, content_words, statement_from}
-use Rattle.ms_parse.proofs.SignLemmas.{sign_from_kind, kind_from_sign}
+use Rattle.ms_words.proofs.SignLemmas.{sign_from_kind, kind_from_sign}
 use Rattle.ms_parse.proofs.Tails.{nonempty}
 
 sentence_ends : (s : Sentence) → sentence_words s ≡ content_words s ++ sign Dot ∷ []

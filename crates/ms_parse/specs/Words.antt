@@ -1,25 +1,17 @@
 -- What the words of directives say, where they say something.
-use Rattle.std.specs.Prelude.{ℕ, nat_eq, nat_le, Bool, false, if◌then◌else◌, List, [], ◌∷◌, Option, Some, None, codes}
+use Rattle.std.specs.Prelude.{ℕ, nat_le, Bool, false, if◌then◌else◌, List, [], ◌∷◌, Option, Some, None, codes}
 use Rattle.std.specs.Option.{option_map, option_and_then}
-use Rattle.std.specs.Cmp.Lexicographic.{pointwise}
 use Rattle.ms_text.specs.declared.token.TokenKind.TheVariants.{Comma, LeftParen, RightParen, Slash, Less, Greater}
 use Rattle.ms_grammar.specs.declared.statement.Form.{Form}
 use Rattle.ms_grammar.specs.declared.statement.Form.TheVariants.{Show, ShowNone}
 use Rattle.ms_grammar.specs.Words.{Word, name, number, sign}
 use Rattle.ms_grammar.specs.Terms.{greatest_numeral}
-
-abbrev pub name_in : Word → Option (List ℕ)
-name_in (name n) = Some n
-name_in w = None
+use Rattle.ms_words.specs.Words.{name_in, is_name}
 
 -- a number no greater than it may be
 abbrev pub numeral_in : Word → Option ℕ
 numeral_in (number n) = if nat_le n greatest_numeral then Some n else None
 numeral_in w = None
-
-abbrev pub is_name : List ℕ → Word → Bool
-is_name n (name m) = pointwise nat_eq m n
-is_name n w = false
 
 abbrev mutual
   -- names with commas between them, up to a parenthesis at the end

@@ -5,8 +5,7 @@ ghost use Rattle.ms_grammar.specs.Words.{words_of};
 ghost use Rattle.ms_parse.specs.Words.{show_in, is_incmode};
 ghost use Rattle.ms_parse.specs.Content.{IsAtom, IsConstLine, IsValue, whole};
 
-use crate::sign::after_sign;
-use crate::word::{is_name, name_of, numeral_of};
+use crate::word::numeral_of;
 use ms_base::memory::OutOfMemory;
 use ms_grammar::part::{Counted, ValuePart};
 use ms_grammar::statement::Form;
@@ -14,6 +13,8 @@ use ms_grammar::term::TextTerm;
 use ms_read_part::read_atom;
 use ms_read_value::read_front;
 use ms_text::token::{Token, TokenKind};
+use ms_words::names::{is_name, name_of};
+use ms_words::signs::after_sign;
 use std::alloc::Global;
 
 /// What the tokens after `#external` spell: an atom.

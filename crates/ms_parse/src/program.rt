@@ -5,12 +5,13 @@ ghost use Rattle.ms_grammar.specs.Words.{words_of};
 ghost use Rattle.ms_parse.specs.Words.{names_in, parameters_in};
 ghost use Rattle.ms_parse.specs.Content.{IsProgramLine};
 
-use crate::sign::{after_sign, is_alone};
-use crate::word::name_of;
+use crate::sign::is_alone;
 use ms_base::memory::OutOfMemory;
 use ms_base::seq::{Bytes, Seq};
 use ms_grammar::statement::{Form, Names};
 use ms_text::token::{Token, TokenKind};
+use ms_words::names::name_of;
+use ms_words::signs::after_sign;
 use std::alloc::Global;
 use std::collections::BTreeSet;
 

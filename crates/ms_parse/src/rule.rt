@@ -9,13 +9,13 @@ ghost use Rattle.ms_parse.specs.Signs.{Separates, SeparatesNot};
 ghost use Rattle.ms_parse.specs.Content.{IsRule, IsTail, IsBody, with_part};
 
 use crate::counts::{more_choices, more_elements};
-use crate::sign::after_sign;
 use ms_base::memory::OutOfMemory;
 use ms_base::seq::Seq;
 use ms_grammar::part::Counted;
 use ms_grammar::statement::{BodyLit, BodyLits, Form, Head};
 use ms_read_part::{read_body_part, read_head};
 use ms_text::token::{Token, TokenKind};
+use ms_words::signs::after_sign;
 use std::alloc::Global;
 
 /// The rule that the tokens spell. There is none without tokens.

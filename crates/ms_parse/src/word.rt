@@ -1,33 +1,14 @@
-// What tokens say that stand by themselves: names and numbers.
-ghost use Rattle.std.specs.Prelude.{◌≡◌, ◌≤◌, length, IfOk};
+// Tokens that are numbers.
+ghost use Rattle.std.specs.Prelude.{◌≡◌, ◌≤◌, length};
 ghost use Rattle.ms_text.specs.Tokens.{number_of};
 ghost use Rattle.ms_grammar.specs.Words.{number, word_of};
-ghost use Rattle.ms_parse.specs.Words.{is_name, name_in, numeral_in};
+ghost use Rattle.ms_parse.specs.Words.{numeral_in};
 
-use ms_base::memory::OutOfMemory;
-use ms_base::seq::{Bytes, Seq};
 use ms_text::number::number_of;
 use ms_text::token::{Token, TokenKind};
-use std::alloc::Global;
 
 /// The greatest number without a minus sign.
 const GREATEST: u64 = i64::MAX as u64;
-
-/// The name that the token is, if it is one.
-pub(crate) fn name_of(
-    alloc: Global,
-    text: &[u8],
-    token: Token,
-) -> Result<Option<Bytes>, OutOfMemory>
-    requires ordered { token.start ≤ token.end }
-    requires within { token.end ≤ length text.now }
-    ensures { IfOk result (λ found. found ≡ name_in (word_of text.now token)) }
-{
-    match token.kind {
-        TokenKind::Name => Ok(Some(Seq::copied(alloc, &text[token.start..token.end])?)),
-        _ => Ok(None),
-    }
-}
 
 /// The number that the token is, if it is one and no greater than it may be.
 pub(crate) fn numeral_of(text: &[u8], token: Token) -> Option<u64>
@@ -47,13 +28,4 @@ fn numeral(digits: &[u8]) -> Option<u64>
 {
     let number = number_of(digits)?;
     (number <= GREATEST).then_some(number)
-}
-
-/// Whether the token is this name.
-pub(crate) fn is_name(text: &[u8], token: Token, name: &[u8]) -> bool
-    requires ordered { token.start ≤ token.end }
-    requires within { token.end ≤ length text.now }
-    ensures { result ≡ is_name name.now (word_of text.now token) }
-{
-    matches!(token.kind, TokenKind::Name) && &text[token.start..token.end] == name
 }

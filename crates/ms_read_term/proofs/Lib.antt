@@ -1,4 +1,3 @@
-mod Strings
 mod Closings
 mod Running
 pub mod Complete

@@ -14,7 +14,6 @@ mod level;
 mod make;
 mod reader;
 mod row;
-mod string;
 
 use crate::reader::Reader;
 pub use ms_base::memory::OutOfMemory;

@@ -9,13 +9,13 @@ use crate::bracket::{Bracket, Frame};
 use crate::frames::Frames;
 use crate::level::{Level, PendingProduct, PendingSum, ProductSign, SumSign};
 use crate::make::{absolute, constant, leaf, negated};
-use crate::string::{unescape, within_quotes};
 use ms_base::memory::OutOfMemory;
 use ms_base::seq::{Bytes, Seq};
 use ms_grammar::part::Part;
 use ms_grammar::term::TextTerm;
 use ms_text::number::number_of;
 use ms_text::token::{Token, TokenKind};
+use ms_words::strings::{unescaped, within_quotes};
 use std::alloc::Global;
 use std::mem;
 
@@ -128,7 +128,7 @@ impl Reader {
             }
             TokenKind::Number => self.number(alloc, spelled),
             TokenKind::Text => {
-                let bytes = unescape(alloc, within_quotes(text, token))?;
+                let bytes = unescaped(alloc, within_quotes(text, token))?;
                 self.land(alloc, self.level.minuses, leaf(TextTerm::Text(bytes)))
             }
             TokenKind::Minus => Ok(self.minus()),

@@ -1,4 +1,3 @@
-mod Quoted
 mod Numerals
 mod Steps
 mod Complete

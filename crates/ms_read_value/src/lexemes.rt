@@ -1,13 +1,13 @@
 // Words as a reader of values tells them apart.
 ghost use Rattle.std.specs.Prelude.{◌≡◌, ◌≤◌, length, IfOk};
-ghost use Rattle.ms_grammar.specs.Words.{word_of, within_quotes};
+ghost use Rattle.ms_grammar.specs.Words.{word_of};
 ghost use Rattle.ms_read_value.specs.Lexemes.{lexeme_of};
 
 use crate::numbers::saturated;
-use crate::strings::unescaped;
 use ms_base::memory::OutOfMemory;
 use ms_base::seq::Bytes;
 use ms_text::token::{Token, TokenKind};
+use ms_words::strings::{unescaped, within_quotes};
 use std::alloc::Global;
 
 /// A word of a value.
@@ -45,16 +45,4 @@ pub(crate) fn lexeme_at(alloc: Global, text: &[u8], token: Token) -> Result<Lexe
         TokenKind::RightParen => Lexeme::Close,
         _ => Lexeme::Other,
     })
-}
-
-/// The bytes between the first and the last.
-fn within_quotes(text: &[u8], token: Token) -> &[u8]
-    requires ordered { token.start ≤ token.end }
-    requires within { token.end ≤ length text.now }
-    ensures { result.now ≡ within_quotes text.now token }
-{
-    if token.end - token.start < 2 {
-        return &[];
-    }
-    &text[token.start + 1..token.end - 1]
 }

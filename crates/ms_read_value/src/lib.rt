@@ -13,7 +13,6 @@ mod groups;
 mod lexemes;
 mod numbers;
 mod reader;
-mod strings;
 
 use front::count_front;
 pub use ms_base::memory::OutOfMemory;

@@ -1,5 +1,5 @@
 use Rattle.std.proofs.Common.{length, arith, ap, length-drop}
-use Rattle.ms_lines.proofs.SignLemmas.{drop_within, after_within, after_shorter}
+use Rattle.ms_words.proofs.SignLemmas.{drop_within, after_within, after_shorter}
 use Rattle.ms_lines.proofs.ArgumentFronts.{values_none, values_more, values_closing}
 use Rattle.ms_lines.proofs.arguments.read_some_arguments.Goals as goal
 

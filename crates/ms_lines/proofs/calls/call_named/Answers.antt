@@ -1,7 +1,7 @@
 use Rattle.std.proofs.Common.{sym, subst}
 use Rattle.ms_grammar.specs.Words.{words_of}
 use Rattle.ms_lines.specs.Finding.{IsOnly, IsCallAfter}
-use Rattle.ms_lines.proofs.SignLemmas.{after_within}
+use Rattle.ms_words.proofs.SignLemmas.{after_within}
 use Rattle.ms_lines.proofs.CallFronts.{call_without, call_with_arguments}
 use Rattle.ms_lines.proofs.calls.call_named.Goals as goal
 

@@ -1,7 +1,7 @@
 use Rattle.std.proofs.Common.{sym, ◌∙◌}
 use Rattle.ms_call.specs.Commands.{IsCall}
 use Rattle.ms_lines.proofs.CallFronts.{call_starts, call_some}
-use Rattle.ms_lines.proofs.SignLemmas.{drop_within}
+use Rattle.ms_words.proofs.SignLemmas.{drop_within}
 use Rattle.ms_lines.proofs.Sequences.{seq_none, seq_last, seq_more}
 use Rattle.ms_lines.proofs.calls.read_calls.Goals as goal
 

@@ -1,5 +1,5 @@
-use Rattle.ms_lines.proofs.SignLemmas.{after_within, first_within}
-use Rattle.ms_lines.proofs.NameLemmas.{after_name_within}
+use Rattle.ms_words.proofs.SignLemmas.{after_within, first_within}
+use Rattle.ms_words.proofs.NameLemmas.{after_name_within}
 use Rattle.ms_lines.proofs.SolveLemmas.{no_limit_name, no_limit_sign}
 use Rattle.ms_lines.proofs.solve.limit_at.Goals as goal
 

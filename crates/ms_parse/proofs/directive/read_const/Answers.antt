@@ -1,7 +1,7 @@
 use Rattle.std.proofs.Common.{refl, sym, ◌∙◌}
 use Rattle.ms_text.specs.declared.token.TokenKind.TheVariants.{Equal}
 use Rattle.ms_parse.proofs.Lines.{const_without_sign, const_found}
-use Rattle.ms_parse.proofs.SignLemmas.{words_begin, words_begin_not, rest_within, after_within}
+use Rattle.ms_words.proofs.SignLemmas.{words_begin, words_begin_not, rest_within, after_within}
 use Rattle.ms_parse.proofs.directive.read_const.Goals as goal
 
 pub returns-in_default-after_sign : goal.returns-in_default-after_sign

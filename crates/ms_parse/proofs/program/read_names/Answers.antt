@@ -1,6 +1,6 @@
 use Rattle.std.proofs.Common.{sym, ◌∙◌}
 use Rattle.ms_parse.proofs.NameSteps.{names_broken, names_go_on}
-use Rattle.ms_parse.proofs.SignLemmas.{rest_within, after_within}
+use Rattle.ms_words.proofs.SignLemmas.{rest_within, after_within}
 use Rattle.ms_parse.proofs.program.read_names.Goals as goal
 
 pub returns-in_default-after_sign : goal.returns-in_default-after_sign

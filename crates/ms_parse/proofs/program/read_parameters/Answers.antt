@@ -1,6 +1,7 @@
 use Rattle.std.proofs.Common.{sym, ◌∙◌}
 use Rattle.ms_parse.proofs.NameSteps.{no_parameters_in}
-use Rattle.ms_parse.proofs.SignLemmas.{after_within, some_words}
+use Rattle.ms_words.proofs.SignLemmas.{after_within}
+use Rattle.ms_parse.proofs.SignLemmas.{some_words}
 use Rattle.ms_parse.proofs.program.read_parameters.Goals as goal
 
 pub returns-in_default : goal.returns-in_default

@@ -5,7 +5,8 @@ use Rattle.ms_grammar.specs.Statements.{BodyPart, body_part_words, body_part_spe
 use Rattle.ms_parse.proofs.Fronts.{none_from_read}
 use Rattle.ms_parse.proofs.TokenFronts.{split_tokens, front_len}
 use Rattle.ms_parse.proofs.Bodies.{Part, body_without_part, body_at_end, body_not_separated, read_to_more}
-use Rattle.ms_parse.proofs.SignLemmas.{some_words, empty_from_test, words_separate_not, separated_words, drop_within, separator_within}
+use Rattle.ms_words.proofs.SignLemmas.{drop_within}
+use Rattle.ms_parse.proofs.SignLemmas.{some_words, empty_from_test, words_separate_not, separated_words, separator_within}
 use Rattle.ms_parse.proofs.rule.read_body.Goals as goal
 
 pub split_at-requires : goal.split_at-requires

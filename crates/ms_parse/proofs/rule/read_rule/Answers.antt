@@ -6,7 +6,8 @@ use Rattle.ms_grammar.specs.Statements.{HeadPart, head_words, head_spelled}
 use Rattle.ms_parse.proofs.Fronts.{none_from_read}
 use Rattle.ms_parse.proofs.TokenFronts.{split_tokens, front_len}
 use Rattle.ms_parse.proofs.Rules.{rule_without_head, rule_from_tail}
-use Rattle.ms_parse.proofs.SignLemmas.{some_words, drop_within}
+use Rattle.ms_words.proofs.SignLemmas.{drop_within}
+use Rattle.ms_parse.proofs.SignLemmas.{some_words}
 use Rattle.ms_parse.proofs.rule.read_rule.Goals as goal
 
 pub split_at-requires : goal.split_at-requires

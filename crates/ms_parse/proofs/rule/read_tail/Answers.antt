@@ -2,7 +2,8 @@ use Rattle.std.proofs.Common.{◌∷◌, refl, sym, ap, ◌∙◌}
 use Rattle.std.proofs.lemmas.Result.{IfOk-weaker}
 use Rattle.ms_text.specs.declared.token.TokenKind.TheVariants.{If}
 use Rattle.ms_grammar.specs.Words.{words_of, sign}
-use Rattle.ms_parse.proofs.SignLemmas.{words_begin, words_begin_not, after_within, some_words, empty_from_test}
+use Rattle.ms_words.proofs.SignLemmas.{words_begin, words_begin_not, after_within}
+use Rattle.ms_parse.proofs.SignLemmas.{some_words, empty_from_test}
 use Rattle.ms_parse.proofs.Tails.{tail_of_sign, tail_of_body, no_tail_of}
 use Rattle.ms_parse.proofs.rule.read_tail.Goals as goal
 

@@ -1,7 +1,7 @@
 use Rattle.std.proofs.lemmas.Bool.{eq-eqb, ne_eqb}
-use Rattle.ms_read_value.proofs.Quoted.{read-escaped, read-backslash, read-plain, read-all}
-use Rattle.ms_read_value.proofs.strings.unescaped.Goals as goal
-use Rattle.ms_read_value.proofs.strings.unescaped.Goals.{then-behind+in_ok-push, else-behind+then-byte-eq92, else-behind+else-byte-eq92+in_ok-push-2}
+use Rattle.ms_words.proofs.Quoted.{read-escaped, read-backslash, read-plain, read-all}
+use Rattle.ms_words.proofs.strings.unescaped.Goals as goal
+use Rattle.ms_words.proofs.strings.unescaped.Goals.{then-behind+in_ok-push, else-behind+then-byte-eq92, else-behind+else-byte-eq92+in_ok-push-2}
 
 pub loop-byte-preserved : goal.loop-byte-preserved
 loop-byte-preserved c = elim c.if-behind.branch [

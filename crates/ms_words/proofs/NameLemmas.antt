@@ -1,19 +1,27 @@
--- What words tell of the name that comes first.
-use Rattle.std.proofs.Common.{◌≡◌, ℕ, true, false, nat_eq, List, [], ◌∷◌, refl, sym, ap, ◌∙◌}
+-- What words tell of names: of one word, and of the word that comes first.
+use Rattle.std.proofs.Common.{◌≡◌, ℕ, true, false, nat_eq, List, [], ◌∷◌, Some, None, refl, sym, ap, ◌∙◌}
 use Rattle.std.proofs.lemmas.Bool.{false≢true}
 use Rattle.std.specs.Cmp.Lexicographic.{pointwise, bytes_decides}
 use Rattle.ms_text.specs.declared.token.Token.{Token}
 use Rattle.ms_text.specs.Tokens.{LieWithin}
 use Rattle.ms_grammar.specs.Words.{Word, name, word_of, words_of}
-use Rattle.ms_lines.specs.Words.{is_name}
-use Rattle.ms_lines.specs.Signs.{NameComes, NameComesNot}
-use Rattle.ms_lines.proofs.SignLemmas.{rest_within}
+use Rattle.ms_words.specs.Words.{name_in, is_name}
+use Rattle.ms_words.specs.Signs.{NameComes, NameComesNot}
+use Rattle.ms_words.proofs.SignLemmas.{rest_within}
 
 pub same_text : (xs ys : List ℕ) → pointwise nat_eq xs ys ≡ true → xs ≡ ys
 same_text xs ys e = (bytes_decides xs ys).0 e
 
 pub other_text : (xs ys : List ℕ) → pointwise nat_eq xs ys ≡ false → xs ≡ ys → ⊥
 other_text xs ys e same = false≢true (sym e ∙ (bytes_decides xs ys).1 same)
+
+pub name_from_word : (w : Word) (n : List ℕ) → name_in w ≡ Some n → w ≡ name n
+name_from_word (name m) n e = let same : m ≡ n = cc in ap name same
+name_from_word _ n e = cc
+
+pub no_name_from_word : (w : Word) → name_in w ≡ None → (n : List ℕ) → w ≡ name n → ⊥
+no_name_from_word (name m) e n h = cc
+no_name_from_word _ e n h = cc
 
 pub is_name-same : (n : List ℕ) (w : Word) → is_name n w ≡ true → w ≡ name n
 is_name-same n (name m) e = ap name (same_text m n e)

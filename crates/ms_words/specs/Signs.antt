@@ -1,4 +1,4 @@
--- Which kind of token comes first.
+-- Which token comes first: its kind, or the name that it is.
 use Rattle.std.specs.Prelude.{◌≡◌, ℕ, List, ◌∷◌}
 use Rattle.ms_text.specs.declared.token.Token.{Token}
 use Rattle.ms_text.specs.declared.token.TokenKind.{TokenKind}

@@ -6,7 +6,7 @@ use Rattle.ms_text.specs.declared.token.TokenKind.{TokenKind}
 use Rattle.ms_text.specs.declared.token.TokenKind.TheVariants.{Name}
 use Rattle.ms_text.specs.Tokens.{LieWithin}
 use Rattle.ms_grammar.specs.Words.{Word, sign, word_by_kind, word_of, words_of}
-use Rattle.ms_lines.specs.Signs.{Begins, BeginsNot}
+use Rattle.ms_words.specs.Signs.{Begins, BeginsNot}
 
 -- a token's bytes are among the first n
 abbrev pub LiesWithin : ℕ → Token → Type 0
@@ -16,10 +16,10 @@ kind_of_sign : (k kind : TokenKind) (text : List ℕ) (t : Token) → word_by_ki
 kind_of_sign Name kind text t e = cc
 kind_of_sign _ kind text t e = cc
 
-sign_from_kind : (text : List ℕ) (t : Token) (kind : TokenKind) → ((t : Token) → word_by_kind kind text t ≡ sign kind) → t.kind ≡ kind → word_of text t ≡ sign kind
+pub sign_from_kind : (text : List ℕ) (t : Token) (kind : TokenKind) → ((t : Token) → word_by_kind kind text t ≡ sign kind) → t.kind ≡ kind → word_of text t ≡ sign kind
 sign_from_kind text t kind says e = ap (λ k. word_by_kind k text t) e ∙ says t
 
-kind_from_sign : (text : List ℕ) (t : Token) (kind : TokenKind) → word_of text t ≡ sign kind → t.kind ≡ kind
+pub kind_from_sign : (text : List ℕ) (t : Token) (kind : TokenKind) → word_of text t ≡ sign kind → t.kind ≡ kind
 kind_from_sign text t kind e = kind_of_sign t.kind kind text t e
 
 module _ (text : List ℕ) where

@@ -1,0 +1,3 @@
+mod Quoted
+pub mod SignLemmas
+pub mod NameLemmas
