@@ -12,7 +12,6 @@ use Rattle.ms_grammar.specs.declared.part.Counted.{Counted}
 use Rattle.ms_grammar.specs.Words.{Word, name, number, sign, word_by_kind, word_of, words_of}
 use Rattle.ms_grammar.specs.Terms.{greatest_numeral}
 use Rattle.ms_grammar.specs.Statements.{Atom, rule_spelled, Sentence, rule, program, external, const, show, show_none, include, sentence_spelled, alone, with_value, HeadPart, head_words, Tail, tail_words}
-use Rattle.ms_words.specs.Words.{is_name}
 use Rattle.ms_parse.specs.Words.{show_in, is_incmode}
 use Rattle.ms_parse.specs.Content.{IsSpelled, IsExact, IsContent, IsRule, IsAtom, ConstLine, IsConstLine, ProgramLine, IsProgramLine, content_words}
 use Rattle.ms_words.proofs.NameLemmas.{is_name-same}
