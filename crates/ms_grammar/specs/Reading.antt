@@ -1,5 +1,5 @@
 -- What a reader of a line of the grammar finds at the front of words.
-use Rattle.std.specs.Prelude.{ℕ, ◌≡◌, ◌≤◌, Bool, true, false, ⊤, List, [], ◌∷◌, ◌++◌, take, length, Option, Some, IfSome, IsSomeAnd}
+use Rattle.std.specs.Prelude.{ℕ, ◌≡◌, ◌≤◌, Bool, true, false, ⊤, List, [], ◌∷◌, ◌++◌, take, drop, length, Option, Some, IfSome, IsSomeAnd}
 use Rattle.ms_text.specs.declared.token.TokenKind.{TokenKind}
 use Rattle.ms_text.specs.declared.token.TokenKind.TheVariants.{DotDot, LeftParen, Plus, Minus, Star, Slash, Backslash, Comma, Semicolon, Colon, If, Dot, RightBrace}
 use Rattle.ms_grammar.specs.Words.{Word, sign}
@@ -51,10 +51,11 @@ module _ (D V : Type 0) (words : D → List Word) (spelled : D → Option V) whe
     pub words_are : words derivation ≡ take n ws
     pub spells : spelled derivation ≡ Some value
 
-  -- What is found is spelled by the front of the words. Where a front spells a value and what follows may end
-  -- it, that value and the length of that front are found.
+  -- What is found is spelled by the front of the words, and what follows may end it. Where a front spells a value
+  -- and what follows may end it, that value and the length of that front are found.
   pub record IsRead (Ends : List Word → Type 0) (ws : List Word) (found : Option (V × ℕ)) : Type 0 where
     pub sound : IfSome found (λ f. IsFront ws f.0 f.1)
+    pub ends : IfSome found (λ f. Ends (drop f.1 ws))
     pub complete : (d : D) (rest : List Word) (value : V) → ws ≡ words d ++ rest → Ends rest → spelled d ≡ Some value → found ≡ Some (value, length (words d))
 
   -- What is found is spelled by the front of the words, and no front that spells a value is longer. There is

@@ -7,3 +7,4 @@ mod Spelled
 mod Standing
 mod Sound
 mod Reading
+pub mod Stops

@@ -1,6 +1,7 @@
 -- What the machine finds is what a reader of terms is to find.
-use Rattle.std.proofs.Common.{◌≡◌, ℕ, ◌-◌, List, ◌++◌, length, take, Option, Some, None, Result, Ok, Err, IfOk, ap, sym, subst, ◌∙◌, arith, IfSome, length-append}
+use Rattle.std.proofs.Common.{◌≡◌, ℕ, ◌-◌, List, ◌++◌, length, take, drop, Option, Some, None, Result, Ok, Err, IfOk, ap, sym, subst, ◌∙◌, arith, IfSome, length-append}
 use Rattle.std.proofs.lemmas.List.{take_at}
+use Rattle.std.proofs.Math.Seq.{drop-append_seam}
 use Rattle.ms_base.specs.declared.memory.OutOfMemory.{OutOfMemory}
 use Rattle.ms_grammar.specs.declared.part.Part.{Part}
 use Rattle.ms_grammar.specs.Words.{Word}
@@ -11,6 +12,7 @@ use Rattle.ms_read_term.specs.Machine.{at_start, run, numbered, read_of}
 use Rattle.ms_read_term.proofs.Spelled.{SpellsTerm}
 use Rattle.ms_read_term.proofs.Complete.{complete}
 use Rattle.ms_read_term.proofs.Sound.{Finds, sound}
+use Rattle.ms_read_term.proofs.Stops.{run_stops}
 
 front_length : (ws front rest : List Word) → ws ≡ front ++ rest → length ws - length rest ≡ length front
 front_length ws front rest e = omega (arith, ap length e, length-append front rest)
@@ -30,9 +32,18 @@ all_fronts : (ws : List Word) (o : Option (Part × List Word)) → Finds ws o �
 all_fronts ws None h = tt
 all_fronts ws (Some (p, rest)) h = front_found ws rest p h
 
+-- what follows may end it
+rest_dropped : (ws front rest : List Word) → ws ≡ front ++ rest → drop (length ws - length rest) ws ≡ rest
+rest_dropped ws front rest e = ap (λ n. drop n ws) (front_length ws front rest e) ∙ ap (drop (length front)) e ∙ drop-append_seam front rest
+
+all_end : (ws : List Word) (o : Option (Part × List Word)) → Finds ws o → IfSome o (λ f. EndsTerm f.1) → IfSome {T = Part × ℕ} (numbered ws o) (λ f. EndsTerm (drop f.1 ws))
+all_end ws None h ends = tt
+all_end ws (Some (p, rest)) h ends = subst EndsTerm (sym (rest_dropped ws (term_words h.derivation) rest h.words_are)) ends
+
 pub is_read : (ws : List Word) → IsRead Term Part term_words term_part EndsTerm ws (read_of ws)
 is_read ws = record {
   sound = all_fronts ws (run at_start ws) (sound ws);
+  ends = all_end ws (run at_start ws) (sound ws) (run_stops ws at_start);
   complete = λ d rest p e ends spells.
       ap (λ vs. numbered ws (run at_start vs)) e
       ∙ ap (numbered ws) (complete d rest p ends spells)
