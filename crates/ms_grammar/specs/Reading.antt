@@ -51,11 +51,10 @@ module _ (D V : Type 0) (words : D → List Word) (spelled : D → Option V) whe
     pub words_are : words derivation ≡ take n ws
     pub spells : spelled derivation ≡ Some value
 
-  -- What is found is spelled by the front of the words, and what follows may end it. Where a front spells a value
-  -- and what follows may end it, that value and the length of that front are found.
+  -- What is found is spelled by the front of the words. Where a front spells a value and what follows may end
+  -- it, that value and the length of that front are found.
   pub record IsRead (Ends : List Word → Type 0) (ws : List Word) (found : Option (V × ℕ)) : Type 0 where
     pub sound : IfSome found (λ f. IsFront ws f.0 f.1)
-    pub ends : IfSome found (λ f. Ends (drop f.1 ws))
     pub complete : (d : D) (rest : List Word) (value : V) → ws ≡ words d ++ rest → Ends rest → spelled d ≡ Some value → found ≡ Some (value, length (words d))
 
   -- What is found is spelled by the front of the words, and no front that spells a value is longer. There is
@@ -63,3 +62,7 @@ module _ (D V : Type 0) (words : D → List Word) (spelled : D → Option V) whe
   pub record IsLongest (ws : List Word) (found : Option (V × ℕ)) : Type 0 where
     pub sound : IfSome found (λ f. IsFront ws f.0 f.1)
     pub longest : (value : V) (n : ℕ) → IsFront ws value n → IsSomeAnd found (λ f. (n ≤ f.1) × (n ≡ f.1 → value ≡ f.0))
+
+-- What stands behind what is found may follow it.
+abbrev pub EndsBehind : {V : Type 0} → (List Word → Type 0) → List Word → Option (V × ℕ) → Type 0
+EndsBehind Ends ws found = IfSome found (λ f. Ends (drop f.1 ws))

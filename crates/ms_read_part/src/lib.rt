@@ -9,7 +9,7 @@ ghost use Rattle.ms_grammar.specs.declared.statement.BodyLit.{BodyLit};
 ghost use Rattle.ms_grammar.specs.declared.statement.Head.{Head as HeadForm};
 ghost use Rattle.ms_grammar.specs.Words.{words_of};
 ghost use Rattle.ms_grammar.specs.Statements.{Atom, atom_words, atom_spelled, BodyPart, body_part_words, body_part_spelled, HeadPart, head_words, head_spelled};
-ghost use Rattle.ms_grammar.specs.Reading.{EndsPart, IsRead};
+ghost use Rattle.ms_grammar.specs.Reading.{EndsPart, EndsBehind, IsRead};
 
 mod counted;
 mod element;
@@ -36,7 +36,8 @@ pub fn read_atom(
     tokens: &[Token],
 ) -> Result<Option<(Counted<TextTerm>, usize)>, OutOfMemory>
     requires { LieWithin (length text.now) tokens.now }
-    ensures { IfOk result (IsRead Atom (Counted TextTerm) atom_words atom_spelled EndsPart (words_of text.now tokens.now)) }
+    ensures read { IfOk result (IsRead Atom (Counted TextTerm) atom_words atom_spelled EndsPart (words_of text.now tokens.now)) }
+    ensures ends { IfOk result (EndsBehind EndsPart (words_of text.now tokens.now)) }
 {
     let found = term::read_atom(Input::new(alloc, text, tokens))?;
     Ok(ended(found, tokens.len()))
@@ -50,7 +51,8 @@ pub fn read_body_part(
     tokens: &[Token],
 ) -> Result<Option<(Counted<BodyLit>, usize)>, OutOfMemory>
     requires { LieWithin (length text.now) tokens.now }
-    ensures { IfOk result (IsRead BodyPart (Counted BodyLit) body_part_words body_part_spelled EndsPart (words_of text.now tokens.now)) }
+    ensures read { IfOk result (IsRead BodyPart (Counted BodyLit) body_part_words body_part_spelled EndsPart (words_of text.now tokens.now)) }
+    ensures ends { IfOk result (EndsBehind EndsPart (words_of text.now tokens.now)) }
 {
     let found = part::read_body_part(Input::new(alloc, text, tokens))?;
     Ok(ended(found, tokens.len()))
@@ -64,7 +66,8 @@ pub fn read_head(
     tokens: &[Token],
 ) -> Result<Option<(Counted<Head>, usize)>, OutOfMemory>
     requires { LieWithin (length text.now) tokens.now }
-    ensures { IfOk result (IsRead HeadPart (Counted HeadForm) head_words head_spelled EndsPart (words_of text.now tokens.now)) }
+    ensures read { IfOk result (IsRead HeadPart (Counted HeadForm) head_words head_spelled EndsPart (words_of text.now tokens.now)) }
+    ensures ends { IfOk result (EndsBehind EndsPart (words_of text.now tokens.now)) }
 {
     let found = part::read_head(Input::new(alloc, text, tokens))?;
     Ok(ended(found, tokens.len()))

@@ -6,7 +6,7 @@ use Rattle.ms_base.specs.declared.memory.OutOfMemory.{OutOfMemory}
 use Rattle.ms_grammar.specs.declared.part.Part.{Part}
 use Rattle.ms_grammar.specs.Words.{Word}
 use Rattle.ms_grammar.specs.Terms.{Term, term_words, term_part}
-use Rattle.ms_grammar.specs.Reading.{EndsTerm, IsFront, IsRead}
+use Rattle.ms_grammar.specs.Reading.{EndsTerm, EndsBehind, IsFront, IsRead}
 use Rattle.ms_read_term.specs.declared.reader.Reader.{Reader}
 use Rattle.ms_read_term.specs.Machine.{at_start, run, numbered, read_of}
 use Rattle.ms_read_term.proofs.Spelled.{SpellsTerm}
@@ -32,23 +32,26 @@ all_fronts : (ws : List Word) (o : Option (Part × List Word)) → Finds ws o �
 all_fronts ws None h = tt
 all_fronts ws (Some (p, rest)) h = front_found ws rest p h
 
--- what follows may end it
-rest_dropped : (ws front rest : List Word) → ws ≡ front ++ rest → drop (length ws - length rest) ws ≡ rest
-rest_dropped ws front rest e = ap (λ n. drop n ws) (front_length ws front rest e) ∙ ap (drop (length front)) e ∙ drop-append_seam front rest
-
-all_end : (ws : List Word) (o : Option (Part × List Word)) → Finds ws o → IfSome o (λ f. EndsTerm f.1) → IfSome {T = Part × ℕ} (numbered ws o) (λ f. EndsTerm (drop f.1 ws))
-all_end ws None h ends = tt
-all_end ws (Some (p, rest)) h ends = subst EndsTerm (sym (rest_dropped ws (term_words h.derivation) rest h.words_are)) ends
-
 pub is_read : (ws : List Word) → IsRead Term Part term_words term_part EndsTerm ws (read_of ws)
 is_read ws = record {
   sound = all_fronts ws (run at_start ws) (sound ws);
-  ends = all_end ws (run at_start ws) (sound ws) (run_stops ws at_start);
   complete = λ d rest p e ends spells.
       ap (λ vs. numbered ws (run at_start vs)) e
       ∙ ap (numbered ws) (complete d rest p ends spells)
       ∙ ap (λ n. Some (p, n)) (front_length ws (term_words d) rest e);
 }
+
+-- what follows may end it
+rest_dropped : (ws front rest : List Word) → ws ≡ front ++ rest → drop (length ws - length rest) ws ≡ rest
+rest_dropped ws front rest e = ap (λ n. drop n ws) (front_length ws front rest e) ∙ ap (drop (length front)) e ∙ drop-append_seam front rest
+
+all_end : (ws : List Word) (o : Option (Part × List Word)) → Finds ws o → IfSome o (λ f. EndsTerm f.1) → EndsBehind EndsTerm ws (numbered ws o)
+all_end ws None h ends = tt
+all_end ws (Some (p, rest)) h ends = subst EndsTerm (sym (rest_dropped ws (term_words h.derivation) rest h.words_are)) ends
+
+pub if_ends : (r : Result (Option (Part × ℕ)) OutOfMemory) (reader : Reader) (ws : List Word) → reader ≡ at_start → IfOk r (λ found. found ≡ numbered ws (run reader ws)) → IfOk r (EndsBehind EndsTerm ws)
+if_ends (Ok value) reader ws start e = subst (EndsBehind EndsTerm ws) (sym (e ∙ ap (λ r. numbered ws (run r ws)) start)) (all_end ws (run at_start ws) (sound ws) (run_stops ws at_start))
+if_ends (Err failed) reader ws start e = tt
 
 pub if_read : (r : Result (Option (Part × ℕ)) OutOfMemory) (reader : Reader) (ws : List Word) → reader ≡ at_start → IfOk r (λ found. found ≡ numbered ws (run reader ws)) → IfOk r (IsRead Term Part term_words term_part EndsTerm ws)
 if_read (Ok value) reader ws start e = subst (IsRead Term Part term_words term_part EndsTerm ws) (sym (e ∙ ap (λ r. numbered ws (run r ws)) start)) (is_read ws)

@@ -6,7 +6,7 @@ ghost use Rattle.ms_text.specs.Tokens.{LieWithin};
 ghost use Rattle.ms_grammar.specs.declared.part.Part.{Part};
 ghost use Rattle.ms_grammar.specs.Words.{words_of};
 ghost use Rattle.ms_grammar.specs.Terms.{Term, term_words, term_part};
-ghost use Rattle.ms_grammar.specs.Reading.{EndsTerm, IsRead};
+ghost use Rattle.ms_grammar.specs.Reading.{EndsTerm, EndsBehind, IsRead};
 
 mod bracket;
 mod frames;
@@ -32,7 +32,8 @@ pub fn read_term(
     tokens: &[Token],
 ) -> Result<Option<(Part, usize)>, OutOfMemory>
     requires { LieWithin (length text.now) tokens.now }
-    ensures { IfOk result (IsRead Term Part term_words term_part EndsTerm (words_of text.now tokens.now)) }
+    ensures read { IfOk result (IsRead Term Part term_words term_part EndsTerm (words_of text.now tokens.now)) }
+    ensures ends { IfOk result (EndsBehind EndsTerm (words_of text.now tokens.now)) }
 {
     let mut reader = Reader::new(alloc);
     let found = reader.find(alloc, text, tokens);

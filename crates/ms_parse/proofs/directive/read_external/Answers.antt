@@ -3,4 +3,4 @@ use Rattle.ms_parse.proofs.Exact.{exact_from_whole}
 use Rattle.ms_parse.proofs.directive.read_external.Goals as goal
 
 pub returns : goal.returns
-returns c = exact_from_whole _ _ _ _ EndsPart tt _ _ _ _ c.in_ok-found.ensures c.whole.ensures
+returns c = exact_from_whole _ _ _ _ EndsPart tt _ _ _ _ c.in_ok-found.ensures.read c.whole.ensures

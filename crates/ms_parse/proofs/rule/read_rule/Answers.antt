@@ -10,10 +10,10 @@ use Rattle.ms_parse.proofs.SignLemmas.{some_words, drop_within}
 use Rattle.ms_parse.proofs.rule.read_rule.Goals as goal
 
 pub split_at-requires : goal.split_at-requires
-split_at-requires c = front_len HeadPart (Counted HeadForm) head_words head_spelled EndsPart c.args.text.now c.args.tokens.now c.in-Some.head c.in-Some.count _ c.in-Some.is c.in_ok-head.ensures
+split_at-requires c = front_len HeadPart (Counted HeadForm) head_words head_spelled EndsPart c.args.text.now c.args.tokens.now c.in-Some.head c.in-Some.count _ c.in-Some.is c.in_ok-head.ensures.read
 
 pub returns-in_default : goal.returns-in_default
-returns-in_default c = rule_without_head _ (none_from_read HeadPart (Counted HeadForm) head_words head_spelled EndsPart _ _ c.in_default.is c.in_ok-head.ensures)
+returns-in_default c = rule_without_head _ (none_from_read HeadPart (Counted HeadForm) head_words head_spelled EndsPart _ _ c.in_default.is c.in_ok-head.ensures.read)
 
 pub read_tail-requires : goal.read_tail-requires
 read_tail-requires c = drop_within _ c.in-Some.count c.args.tokens.now _ c.split_at.ensures.back c.requires
@@ -21,5 +21,5 @@ read_tail-requires c = drop_within _ c.in-Some.count c.args.tokens.now _ c.split
 pub returns : goal.returns
 returns c =
     let text = c.args.text.now in
-    let split = split_tokens HeadPart (Counted HeadForm) head_words head_spelled EndsPart text c.args.tokens.now c.in-Some.head c.in-Some.count _ c.in-Some.is c.in_ok-head.ensures c.split_at.result.1.now c.split_at.ensures.back in
+    let split = split_tokens HeadPart (Counted HeadForm) head_words head_spelled EndsPart text c.args.tokens.now c.in-Some.head c.in-Some.count _ c.in-Some.is c.in_ok-head.ensures.read c.split_at.result.1.now c.split_at.ensures.back in
     rw c.rule_of.ensures (rule_from_tail _ c.in-Some.head _ split (some_words text c.args.tokens.now (sym c.is_empty.ensures ∙ c.if-is_empty.false)) _ c.in_ok-body.ensures)
