@@ -9,7 +9,6 @@ use Rattle.ms_lits.specs.Literals.{Nogood}
 use Rattle.ms_nogood.specs.Store.{Adds, Store, Stored, awake_in, nogood_at, slot_at}
 use Rattle.ms_nogood.specs.declared.kind.Kind.{Kind}
 use Rattle.ms_nogood.specs.declared.kind.Kind.TheVariants.{Base, Kept}
-use Rattle.ms_nogood.specs.Watching.{attached_in}
 use Rattle.ms_nogood.proofs.Propagation.{awake_same, within_more}
 use Rattle.ms_search.specs.declared.ask.Ask.{Ask}
 use Rattle.ms_search.specs.Problems.{AreUnique, problem_of}
@@ -31,14 +30,14 @@ pub below_more : (vars count : ℕ) (atoms more : List ℕ) → All (λ (atom : 
 below_more vars count atoms more below lt is = subst (All (λ (atom : ℕ). atom < vars)) (sym is) (All-push (λ (atom : ℕ). atom < vars) atoms count below lt)
 
 -- nothing stored, and nothing attached
-pub bench_begun : (vars : ℕ) (atoms : List ℕ) (flags : List Bool) (store : Store) → store ≡ record { slots = []; kept = []; fresh = [] } → ((key : ℕ) → attached_in flags key ≡ false) → All (λ (atom : ℕ). atom < vars) atoms → AreAtoms vars atoms → IsBench vars atoms flags store
-bench_begun vars atoms flags store none free below every =
+pub bench_begun : (vars : ℕ) (atoms : List ℕ) (attached : ℕ → Bool) (store : Store) → store ≡ record { slots = []; kept = []; fresh = [] } → ((key : ℕ) → attached key ≡ false) → All (λ (atom : ℕ). atom < vars) atoms → AreAtoms vars atoms → IsBench vars atoms attached store
+bench_begun vars atoms attached store none free below every =
     let nothing : (key : ℕ) → slot_at store key ≡ None = λ key. ap (λ (s : Store). slot_at s key) none in
     record {
       within = λ key s found. (let slot = nothing key in let clash : None ≡ Some s = sym (ap awake_in slot) ∙ found in absurd (cc));
       lasting = λ key s found. (let slot = nothing key in let clash : None ≡ Some s = sym (ap awake_in slot) ∙ found in absurd (cc));
       wired = record {
-        known = λ key is. absurd (both_ways (attached_in flags key) (free key) is);
+        known = λ key is. absurd (both_ways (attached key) (free key) is);
         fresh = λ key is. absurd (both_ways (is_some (slot_at store key)) (ap is_some (nothing key)) is);
       };
       below = below;

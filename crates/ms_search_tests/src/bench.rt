@@ -24,13 +24,14 @@ pub(crate) struct Bench {
 
 impl Model for Bench {
     ghost use Rattle.std.specs.Prelude.{ℕ};
+    ghost use Rattle.ms_watch.specs.Watches.{is_attached, state_in};
     ghost use Rattle.ms_search_tests.specs.Benches.{IsBench};
 
     ghost Value = { ℕ };
 
     ghost view = { λ b. b.vars };
 
-    ghost invariant = { λ b. IsBench b.vars b.atoms b.search.propagation b.store };
+    ghost invariant = { λ b. IsBench b.vars b.atoms (λ key. is_attached (state_in b.search.propagation.keys key)) b.store };
 }
 
 impl Bench {

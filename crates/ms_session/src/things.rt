@@ -47,6 +47,8 @@ impl Things {
         let known = self.complete.things();
         let mut store = Nogoods::new(self.alloc);
         self.complete.extend(m, &mut store)?;
+        // The completion says that each thing is there once.
+        let _ = self.complete.things();
         self.complete.notes_from(terms, known)
     }
 }

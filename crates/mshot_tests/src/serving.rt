@@ -2,7 +2,7 @@
 ghost use Rattle.std.specs.Prelude.{None, Some};
 
 use ms_base::seq::{Bytes, Seq};
-use ms_io::{Failed, MemSink, MemSource, NoSink, RepeatSource, Sink};
+use ms_io::{Failed, MemSink, MemSource, NoSink, RepeatSource, Sink, Source};
 use mshot::{Status, mshot};
 use std::alloc::Global;
 use std::test::Fail;
@@ -10,7 +10,7 @@ use std::test::Fail;
 const ROOM: usize = 4096;
 
 /// The commands of a script with an external, each with its reply.
-const STEPS: [(&str, &str); 5] = [
+const STEPS: [(&str, &str); 7] = [
     (
         "@add\n#external e. a :- e. b :- not e.\n@end\n",
         "added 3\n",
@@ -19,7 +19,12 @@ const STEPS: [(&str, &str); 5] = [
     ("@solve all\n", "answer: b\ncomplete 1\n"),
     ("@assign e true\n", "assigned\n"),
     ("@solve all\n", "answer: a e\ncomplete 1\n"),
+    ("@assign e free\n", "assigned\n"),
+    ("@solve all\n", "answer: a e\nanswer: b\ncomplete 2\n"),
 ];
+
+/// The lines of its log: the atoms in the order of the base, and the bodies of the rules.
+const DECLARED: &str = "v a a\nv a b\nv a e\nv b 3\nv b -3\n";
 
 fn words(alloc: Global, texts: &[&str]) -> Result<Vec<String>, Fail> {
     let mut list = Vec::new(alloc);
@@ -120,31 +125,160 @@ fn each_write_may_fail(rt: HostRuntime) -> Result<(), Fail> {
     for (failing, (_, reply)) in STEPS.iter().enumerate() {
         let mut src = MemSource::new(script(alloc)?, 16, Vec::new(alloc));
         let mut out = MemSink::new(alloc, ROOM, [failing as u64].to_vec(alloc)?)?;
-        let status = mshot(alloc, &run, &mut src, &mut out, &mut NoSink);
+        let mut log = MemSink::new(alloc, ROOM, Vec::new(alloc))?;
+        let status = mshot(alloc, &run, &mut src, &mut out, &mut log);
+        let told = if failing == 0 { "" } else { DECLARED };
         assert_eq!(rt; status, Status::WriteFault, "put {failing}");
         assert_eq!(rt; out.bytes(), wanted.as_slice(), "put {failing}");
+        assert_eq!(rt; log.bytes(), told.as_bytes(), "put {failing}");
         wanted.extend_from_slice(reply.as_bytes())?;
     }
     Ok(())
 }
 
-/// A failing put to the log ends the call before the reply of its command. A log without lines is never put.
+/// The one command with lines of the log has one put of them, before its reply. Where it fails the call ends there.
 #[test]
 fn each_write_of_the_log_may_fail(rt: HostRuntime) -> Result<(), Fail> {
     let alloc = rt.alloc();
     let run = words(alloc, &["log", "run"])?;
+    let whole = script(alloc)?;
+    let all = replies(alloc, whole.len())?;
     for failing in 0..STEPS.len() as u64 {
         let mut src = MemSource::new(script(alloc)?, 16, Vec::new(alloc));
         let mut out = MemSink::new(alloc, ROOM, Vec::new(alloc))?;
         let mut log = MemSink::new(alloc, ROOM, [failing].to_vec(alloc)?)?;
         let status = mshot(alloc, &run, &mut src, &mut out, &mut log);
-        let failed = log.faults() == 1;
-        let wanted = if failed {
-            Status::LogFault
+        let (ends, replied, told) = if failing == 0 {
+            (Status::LogFault, b"added 3\n".as_slice(), "")
         } else {
-            Status::Done
+            (Status::Done, all.as_slice(), DECLARED)
         };
-        assert_eq!(rt; status, wanted, "put {failing}");
+        assert_eq!(rt; status, ends, "put {failing}");
+        assert_eq!(rt; out.bytes(), replied, "put {failing}");
+        assert_eq!(rt; log.bytes(), told.as_bytes(), "put {failing}");
+    }
+    Ok(())
+}
+
+/// What a script that was cut off is answered.
+#[derive(Drop)]
+struct Cut {
+    replies: Vec<u8>,
+    status: Status,
+}
+
+/// The reply to a last line that is a front of a command, or to a text without its end.
+fn front_reply(front: &[u8]) -> &'static str {
+    if front.starts_with(b"@add") {
+        "refused unfinished\n"
+    } else if front.starts_with(b"@ground b") {
+        // a part of which no text speaks
+        "grounded atoms=0 rules=0\n"
+    } else if front.is_empty() {
+        ""
+    } else {
+        "refused command\n"
+    }
+}
+
+/// What the first bytes of the script are answered, where it ends there.
+fn cut_at(alloc: Global, end: usize) -> Result<Cut, Fail> {
+    let mut text = Vec::new(alloc);
+    let mut left = end;
+    for (command, reply) in STEPS {
+        let bytes = command.as_bytes();
+        // the last line end may lack
+        if left + 1 < bytes.len() {
+            let last = front_reply(&bytes[..left]);
+            text.extend_from_slice(last.as_bytes())?;
+            let status = if last.starts_with("refused") {
+                Status::SomeRefused
+            } else {
+                Status::Done
+            };
+            return Ok(Cut {
+                replies: text,
+                status,
+            });
+        }
+        text.extend_from_slice(reply.as_bytes())?;
+        left = left.saturating_sub(bytes.len());
+    }
+    Ok(Cut {
+        replies: text,
+        status: Status::Done,
+    })
+}
+
+#[test]
+fn a_script_may_end_after_each_byte(rt: HostRuntime) -> Result<(), Fail> {
+    let alloc = rt.alloc();
+    let run = words(alloc, &["run"])?;
+    let whole = script(alloc)?;
+    for end in 0..=whole.len() {
+        let bytes = Vec::from_slice(alloc, &whole.as_slice()[..end])?;
+        let mut src = MemSource::new(bytes, 7, Vec::new(alloc));
+        let mut out = MemSink::new(alloc, ROOM, Vec::new(alloc))?;
+        let status = mshot(alloc, &run, &mut src, &mut out, &mut NoSink);
+        let cut = cut_at(alloc, end)?;
+        assert_eq!(rt; out.bytes(), cut.replies.as_slice(), "{end} bytes");
+        assert_eq!(rt; status, cut.status, "{end} bytes");
+    }
+    Ok(())
+}
+
+/// A reply is put before the next line is taken: where a put fails, what follows its line is still there.
+#[test]
+fn what_follows_is_not_taken(rt: HostRuntime) -> Result<(), Fail> {
+    let alloc = rt.alloc();
+    let run = words(alloc, &["run"])?;
+    let mut src = MemSource::new(script(alloc)?, 1, Vec::new(alloc));
+    let mut out = MemSink::new(alloc, ROOM, [1].to_vec(alloc)?)?;
+    let status = mshot(alloc, &run, &mut src, &mut out, &mut NoSink);
+    assert_eq!(rt; status, Status::WriteFault);
+    let mut left = Vec::new(alloc);
+    let mut byte = [0];
+    for _ in 0..ROOM {
+        if let Ok(count) = src.take(&mut byte) {
+            left.extend_from_slice(&byte[..count])?;
+        }
+    }
+    let mut after = Vec::new(alloc);
+    for (command, _) in STEPS.iter().skip(2) {
+        after.extend_from_slice(command.as_bytes())?;
+    }
+    assert_eq!(rt; left.as_slice(), after.as_slice());
+    Ok(())
+}
+
+/// The lines of the log: each thing that a grounding brings is declared once, behind what it is made of.
+#[test]
+fn things_are_declared_once(rt: HostRuntime) -> Result<(), Fail> {
+    let alloc = rt.alloc();
+    let run = words(alloc, &["log", "run"])?;
+    let rows = [
+        (
+            "two rules",
+            "@add\na :- not b. b :- not a.\n@end\n@ground base\n@solve all\n",
+            "v a a\nv a b\nv b -2\nv b -1\n",
+        ),
+        (
+            "a body that two rules and two modules have",
+            "@add\n{a; b}. c :- a, not b. d :- not b, a. #program late. e :- a, not b.\n@end\n@ground base\n@ground late\n@ground base\n",
+            "v a a\nv a b\nv a c\nv a d\nv b 1 -2\nv b\nv a e\n",
+        ),
+        (
+            "a module that is refused",
+            "@add\na. #program late. b :- a. a.\n@end\n@ground base\n@ground late\n",
+            "v a a\nv b\n",
+        ),
+    ];
+    for (name, script, told) in rows {
+        let bytes = Vec::from_slice(alloc, script.as_bytes())?;
+        let mut src = MemSource::new(bytes, 16, Vec::new(alloc));
+        let mut log = MemSink::new(alloc, ROOM, Vec::new(alloc))?;
+        let _ = mshot(alloc, &run, &mut src, &mut NoSink, &mut log);
+        assert_eq!(rt; log.bytes(), told.as_bytes(), "{name}");
     }
     Ok(())
 }
@@ -172,10 +306,7 @@ fn each_reply_is_one_piece(rt: HostRuntime) -> Result<(), Fail> {
 fn as_many_bytes_as_an_input_may_have(rt: HostRuntime) -> Result<(), Fail> {
     let alloc = rt.alloc();
     let run = words(alloc, &["run"])?;
-    for (left, wanted) in [
-        (1 << 30, Status::Done),
-        ((1 << 30) + 1, Status::TooLong),
-    ] {
+    for (left, wanted) in [(1 << 30, Status::Done), ((1 << 30) + 1, Status::TooLong)] {
         let mut src = RepeatSource::new(b'\n', left);
         let mut out = MemSink::new(alloc, 0, Vec::new(alloc))?;
         let status = mshot(alloc, &run, &mut src, &mut out, &mut NoSink);

@@ -1,5 +1,6 @@
 use Rattle.std.proofs.Common.{ℕ, ◌<◌, List, arith, sym, subst}
 use Rattle.std.specs.Prelude.{All}
+use Rattle.ms_watch.specs.Watches.{is_attached, state_in}
 use Rattle.ms_search_tests.proofs.Benches.{AreAtoms, atoms_more, below_more, bench_begun}
 use Rattle.ms_search_tests.proofs.bench.Bench.new.Goals as goal
 
@@ -15,6 +16,6 @@ pub invariant_of-result : goal.invariant_of-result
 invariant_of-result c =
     let same = sym c.from_vec.ensures in
     let most = c.loop-var-test.false in
-    bench_begun c.args.vars c.from_vec.result c.new.result.propagation c.new-2.result c.new-2.ensures c.new.ensures.none
+    bench_begun c.args.vars c.from_vec.result (λ key. is_attached (state_in c.new.result.propagation.keys key)) c.new-2.result c.new-2.ensures c.new.ensures.none
     (subst (All (λ (atom : ℕ). atom < c.args.vars)) same c.loop-var.invariant.below)
     (subst (AreAtoms c.args.vars) same (λ var lt. c.loop-var.invariant.every var (omega (arith, lt, most))))

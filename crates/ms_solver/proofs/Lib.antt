@@ -1,0 +1,13 @@
+pub mod Lists
+pub mod Stores
+pub mod Starting
+pub mod Releasing
+pub mod Lasting
+pub mod Sleeping
+pub mod Joining
+pub mod Picked
+pub mod Listing
+pub mod Few
+pub mod Assignments
+pub mod Solved
+pub mod Asking

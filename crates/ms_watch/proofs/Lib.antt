@@ -1,0 +1,11 @@
+pub mod Linked
+pub mod Moved
+pub mod Choices
+pub mod Pending
+pub mod Passing
+pub mod Fates
+pub mod Forced
+pub mod Walking
+pub mod Settling
+pub mod Steps
+pub mod Ends

@@ -1,0 +1,14 @@
+use Rattle.std.proofs.Common.{refl}
+use Rattle.ms_nogood.proofs.Propagation.{propagates_none}
+use Rattle.ms_watch.proofs.Forced.{forced_one}
+use Rattle.ms_watch.proofs.Settling.{value_none}
+use Rattle.ms_watch.proofs.watches.force.Goals as goal
+
+pub returns-then-is_false-clause-propagates : goal.returns-then-is_false-clause-propagates
+returns-then-is_false-clause-propagates c = propagates_none c.args.store.now c.args.trail.now c.args.trail.now refl
+
+pub returns-clause-propagates : goal.returns-clause-propagates
+returns-clause-propagates c =
+    let o = c.requires.open in
+    forced_one c.args.store.now c.args.trail.now c.assign.new.self c.args.key o.lits c.args.lit c.opposite.result c.requires.awake o.found o.open_.contained
+    (value_none c.args.trail.now.entries c.args.lit o.open_.untrue (c.is_false.ensures.fails c.if-is_false.false)) o.open_.others c.opposite.ensures c.assign.ensures
