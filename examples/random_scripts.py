@@ -247,10 +247,12 @@ class Log:
         signed = [self.numbers[a] for a in rule.pos] + [-self.numbers[a] for a in rule.neg]
         return ("body", tuple(sorted(signed, key=lambda l: (abs(l), -l))))
 
-    def declare(self, machine, expected):
-        """Each new thing has one line, with the next number."""
-        while self.at < len(self.lines) and self.lines[self.at].startswith("v "):
+    def declare(self, machine):
+        """Each new thing has one line, with the next number, behind what it is made of."""
+        count = len(machine.base) + len({(r.pos, r.neg) for r in machine.rules})
+        while len(self.numbers) < count:
             words = self.next().split(" ")
+            wanted(words[0] == "v", "a declaration is missing")
             thing = words[2] if words[1] == "a" else ("body", tuple(map(int, words[2:])))
             wanted(thing not in self.numbers, "%s is declared twice" % (thing,))
             wanted(words[1] == "a" or all(abs(l) <= len(self.numbers) for l in thing[1]), "a line names a later thing")
@@ -258,7 +260,6 @@ class Log:
         wanted({t for t in self.numbers if isinstance(t, str)} == set(machine.base), "the atoms of the base aren't those declared")
         bodies = {self.body(r) for r in machine.rules}
         wanted({t for t in self.numbers if not isinstance(t, str)} == bodies, "the bodies aren't those declared")
-        wanted(expected, "lines without an accepted grounding")
 
     def completion(self, machine):
         nogoods = set()
@@ -389,8 +390,8 @@ def check_script(program, commands, mode):
                 continue
             should = getattr(machine, command[0])(*command[1:])
             wanted(reply == should, "got %r, wanted %r" % (reply, should))
-            if mode and command[0] == "ground":
-                log.declare(machine, True)
+            if mode and command[0] == "ground" and reply[0].startswith("grounded"):
+                log.declare(machine)
         except Wrong as wrong:
             raise Wrong("%s: %s" % (script_line(command), wrong))
     wanted(at == len(lines), "there are more replies than commands")
