@@ -1,4 +1,4 @@
-ghost use Rattle.std.specs.Prelude.{◌≡◌, ◌-◌, ◌<◌, ◌≤◌, ◌↔◌, ◌⊎◌, [], length, Some, IsErr, IsOk, IfOk, OnOk, OnErr, Contains};
+ghost use Rattle.std.specs.Prelude.{◌≡◌, ◌-◌, ◌<◌, ◌≤◌, ◌↔◌, ◌⊎◌, [], length, Some, None, IsErr, IsOk, IfOk, OnOk, OnErr, Contains};
 ghost use Rattle.ms_io.specs.Faults.{Rose};
 ghost use Rattle.ms_io.specs.MemSink.{after_put, after_refusal};
 ghost use Rattle.ms_io.specs.Streams.{Adds, AddsFront};
@@ -9,7 +9,7 @@ use ms_base::memory::OutOfMemory;
 use std::alloc::Global;
 use std::marker::Model;
 
-/// A sink that holds its bytes in memory, up to a limit, and whose calls fail as planned.
+/// A sink that holds its bytes in memory, up to a limit, and whose calls fail as planned. It doesn't tell its pieces.
 #[derive(Debug, Drop)]
 pub struct MemSink {
     bytes: Vec<u8>,
@@ -76,6 +76,8 @@ impl MemSink {
 impl Sink for MemSink {
     ghost held = { λ s. Some s.held };
 
+    ghost pieces = { λ _. None };
+
     ghost faults = { λ s. s.faults };
 
     fn put(&mut self, piece: &[u8]) -> Result<(), Failed>
@@ -87,6 +89,7 @@ impl Sink for MemSink {
 
         // What each sink promises.
         ensures counts { self.old.faults ≤ self.new.faults }
+        ensures quiet { OnOk result (self.new.faults ≡ self.old.faults) }
         ensures failed { OnErr result (Rose self.old.faults self.new.faults) }
         ensures added { OnOk result (Adds (Some self.old.held) piece.now (Some self.new.held)) }
         ensures front { OnErr result (AddsFront (Some self.old.held) piece.now (Some self.new.held)) }

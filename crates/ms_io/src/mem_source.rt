@@ -1,4 +1,4 @@
-ghost use Rattle.std.specs.Prelude.{◌≡◌, ◌<◌, ◌≤◌, ◌↔◌, ◌++◌, length, take, drop, Some, IsErr, IfOk, OnErr, Contains};
+ghost use Rattle.std.specs.Prelude.{◌≡◌, ◌<◌, ◌≤◌, ◌↔◌, ◌++◌, length, take, drop, Some, IsErr, IfOk, OnOk, OnErr, Contains};
 ghost use Rattle.ms_io.specs.Faults.{Rose};
 ghost use Rattle.ms_io.specs.MemSource.{moved_count, after_move, after_fault};
 ghost use Rattle.ms_io.specs.Streams.{Moves, IsAtEnd};
@@ -85,6 +85,7 @@ impl Source for MemSource {
 
         // What each source promises.
         ensures counts { self.old.faults ≤ self.new.faults }
+        ensures quiet { OnOk result (self.new.faults ≡ self.old.faults) }
         ensures failed { OnErr result (Rose self.old.faults self.new.faults) }
         ensures stays { OnErr result (Some self.new.left ≡ Some self.old.left) }
         ensures within { IfOk result (λ n. n ≤ length buffer.old) }

@@ -10,6 +10,8 @@ pub struct NoSink;
 impl Sink for NoSink {
     ghost held = { λ _. None };
 
+    ghost pieces = { λ _. None };
+
     ghost faults = { λ _. 0 };
 
     fn put(&mut self, piece: &[u8]) -> Result<(), Failed>

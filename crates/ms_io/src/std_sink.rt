@@ -72,6 +72,8 @@ impl<W: Write> StdSink<W> {
 impl<W: Write> Sink for StdSink<W> {
     ghost held = { λ _. None };
 
+    ghost pieces = { λ _. None };
+
     ghost faults = { λ s. s.faults };
 
     /// Where it is `Ok`, the whole piece was written and flushed.

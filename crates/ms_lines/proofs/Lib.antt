@@ -12,3 +12,4 @@ pub mod CommandLemmas
 pub mod LineKinds
 pub mod LineSteps
 pub mod WholeScripts
+pub mod Passing

@@ -95,7 +95,7 @@ module _ (ended : Bool) (more : List ℕ) where
       (lines_first bytes (subst (λ n. n < length bytes) is.len_is is.within) ∙ ap (λ n. take (prefix_len is_in_line bytes) bytes ∷ lines_in ended (drop n bytes ++ more)) (sym (add-one (prefix_len is_in_line bytes))))
 
 -- a line and the items after it
-HaveItems-line : (opened : Open) (line : List ℕ) (lines : List (List ℕ)) (said : Option Item × Open) → IsOnly (Says opened line) said → (items : List Item) (left : Open)
+pub HaveItems-line : (opened : Open) (line : List ℕ) (lines : List (List ℕ)) (said : Option Item × Open) → IsOnly (Says opened line) said → (items : List Item) (left : Open)
     → HaveItems opened (line ∷ lines) items left ↔ ((others : List Item) × (items ≡ with_item said.0 others) × HaveItems said.1 lines others left)
 unfolding HaveItems
 HaveItems-line opened line lines said only items left = (
@@ -123,6 +123,12 @@ says_later first second third item a b ended more items left = (
       let t = (b ended more s.0 left).0 s.2 in
       (t.0, s.1 ∙ t.1, t.2),
   λ h. (a ended more items left).1 (items, refl, (b ended more items left).1 h),
+)
+
+pub says_same : (first second third : Lines) → SaysThen first None second → third.text ≡ second.text → third.rest ≡ second.rest → SaysThen first None third
+says_same first second third h text rest ended more items left = (
+  λ a. let b = (h ended more items left).0 a in (b.0, b.1, subst (λ t. HaveItems t (lines_in ended (third.rest ++ more)) b.0 left) (sym text) (subst (λ r. HaveItems second.text (lines_in ended (r ++ more)) b.0 left) (sym rest) b.2)),
+  λ b. (h ended more items left).1 (b.0, b.1, subst (λ r. HaveItems second.text (lines_in ended (r ++ more)) b.0 left) rest (subst (λ t. HaveItems t (lines_in ended (third.rest ++ more)) b.0 left) text b.2)),
 )
 
 -- the same at the end
@@ -203,14 +209,6 @@ end_of_end first second third a b = (a.0 ++ b.0, a.1 ∙ ap (λ xs. a.0 ++ xs) b
 pub end_dropped : (bytes last : List ℕ) (n : ℕ) → last ≡ drop n bytes → IsEndOf bytes last
 end_dropped bytes last n e = (take n bytes, sym (ap (λ xs. take n bytes ++ xs) e ∙ take-append-drop n bytes))
 
--- one line further
-module _ (first here third : Lines) (rest : List ℕ) (same : rest ≡ here.rest) where
-  pub says_on : SaysThen first None here → (item : Option Item) → SaysThen (record { text = here.text; rest = rest }) item third → SaysThen first item third
-  says_on a item b = says_later first here third item a (subst (λ r. SaysThen (record { text = here.text; rest = r }) item third) same b)
-
-  pub ends_on : IsEndOf first.rest here.rest → IsEndOf rest third.rest → IsEndOf first.rest third.rest
-  ends_on a b = end_of_end first.rest here.rest third.rest a (subst (λ r. IsEndOf r third.rest) same b)
-
 -- only `NotYet` is no item
 pub no_item : (fed : Fed) → item_of fed ≡ None → fed ≡ NotYet
 no_item (is_fed c) e = absurd (let f : ⊥ = cc in f)
@@ -252,13 +250,26 @@ lacks_first bytes last len is e = omega (arith, is.len_is, is.within, ap length 
 pub end_no_longer : (bytes last : List ℕ) → IsEndOf bytes last → length last ≤ length bytes
 end_no_longer bytes last k = omega (arith, ap length k.1, length-append k.0 last)
 
--- So far nothing was read, or at least the first line.
-abbrev pub HasRead : List ℕ → List ℕ → Type 0
-HasRead bytes rest = (rest ≡ bytes) ⊎ LacksLine bytes rest
+-- The first line of bytes ends no later than behind the first line of their end.
+first_by_end : (x : ℕ) (front last : List ℕ) → prefix_len is_in_line (front ++ last) ≤ length front + prefix_len is_in_line last → (t : Bool) → is_in_line x ≡ t → prefix_len is_in_line (x ∷ (front ++ last)) ≤ length (x ∷ front) + prefix_len is_in_line last
+first_by_end x front last h true e = let here : prefix_len is_in_line (x ∷ (front ++ last)) ≡ suc (prefix_len is_in_line (front ++ last)) = rw (e, one-add) refl in omega (arith, here, h)
+first_by_end x front last h false e = let here : prefix_len is_in_line (x ∷ (front ++ last)) ≡ 0 = rw e refl in omega (arith, here)
 
-pub read_on : (bytes here rest last : List ℕ) → HasRead bytes here → rest ≡ here → LacksLine rest last → LacksLine bytes last
-read_on bytes here rest last (inl e) same lacks = subst (λ r. LacksLine r last) (same ∙ e) lacks
-read_on bytes here rest last (inr h) same lacks = omega (arith, h, lacks, ap length same)
+first_before_end : (front last : List ℕ) → prefix_len is_in_line (front ++ last) ≤ length front + prefix_len is_in_line last
+first_before_end [] last = omega arith
+first_before_end (x ∷ front) last = first_by_end x front last (first_before_end front last) (is_in_line x) refl
+
+pub read_on : (bytes here last : List ℕ) → IsEndOf bytes here → LacksLine here last → LacksLine bytes last
+read_on bytes here last kept lacks = omega (arith, lacks, ap length kept.1, length-append kept.0 here, first_before_end kept.0 here, ap (prefix_len is_in_line) kept.1)
+
+-- what holds, holds where a call failed
+pub where_err : {A E P : Type 0} (r : Result A E) → P → OnErr r P
+where_err (Ok x) p = tt
+where_err (Err e) p = p
+
+-- a line fewer of an end
+pub shorter_end : (bytes here last : List ℕ) → IsEndOf bytes here → LacksLine here last → length last < length bytes
+shorter_end bytes here last kept lacks = omega (arith, lacks, end_no_longer bytes here kept)
 
 pub loses_item : (fed : Fed) (bytes last : List ℕ) → LacksLine bytes last → LosesLine fed bytes last
 loses_item (is_fed c) bytes last h = h

@@ -1,6 +1,7 @@
 // Bytes that come at the end and go at the front.
-ghost use Rattle.std.specs.Prelude.{◌≡◌, ◌↔◌, ◌≤◌, [], ◌++◌, length, vec_len, drop, MatchOption, OnOk, OnErr, IsTrue};
-ghost use Rattle.ms_lines.specs.Buffers.{IsLineLen, HasNoLine};
+ghost use Rattle.std.specs.Prelude.{◌≡◌, ◌↔◌, ◌≤◌, [], ◌++◌, length, vec_len, drop, take_while, MatchOption, OnOk, OnErr, IsTrue};
+ghost use Rattle.ms_call.specs.Lines.{skipped};
+ghost use Rattle.ms_lines.specs.Buffers.{is_passed, IsLineLen, HasNoLine};
 
 use ms_base::memory::OutOfMemory;
 use ms_base::seq::Bytes;
@@ -85,6 +86,16 @@ impl Buffer {
         (self.seen < self.bytes.len()).then_some(self.seen - self.gone)
     }
 
+    /// Takes the spaces, tabs and line ends at the front away.
+    pub fn pass_blanks(&mut self)
+        ensures { self.new ≡ skipped is_passed self.old }
+    {
+        let count = passed_len(self.bytes());
+        if count > 0 {
+            self.advance(count);
+        }
+    }
+
     /// Takes bytes at the front away, no more than up to behind the first line end.
     pub fn advance(&mut self, count: usize)
         requires { count ≤ length self.old }
@@ -107,4 +118,19 @@ fn remove_front(bytes: &mut Vec<u8>, count: usize)
     let left = bytes.len() - count;
     bytes.copy_within(count.., 0);
     bytes.truncate(left);
+}
+
+/// How many spaces, tabs and line ends stand at the front.
+fn passed_len(bytes: &[u8]) -> usize
+    ensures value { result ≡ length (take_while is_passed bytes.now) }
+    ensures within { result ≤ length bytes.now }
+{
+    bytes.iter().take_while(|byte| is_passed(**byte)).count()
+}
+
+/// Whether a byte is a space, a tab or a line end.
+fn is_passed(byte: u8) -> bool
+    ensures { result ≡ is_passed byte }
+{
+    matches!(byte, b' ' | b'\t' | b'\n')
 }

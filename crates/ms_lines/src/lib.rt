@@ -1,10 +1,10 @@
 // Commands of a script that comes in pieces, cut anywhere.
 #![tactic(auto)]
 
-ghost use Rattle.std.specs.Prelude.{◌≡◌, ◌↔◌, ◌<◌, ◌++◌, [], None, length, take, IfOk, OnOk, OnErr, IsTrue, IsSome};
+ghost use Rattle.std.specs.Prelude.{◌≡◌, ◌↔◌, ◌<◌, ◌++◌, [], None, length, take, IfOk, OnOk, OnErr, IsTrue, IsSome, MatchOption};
 ghost use Rattle.ms_call.specs.Items.{Says};
 ghost use Rattle.ms_lines.specs.Finding.{IsOnly};
-ghost use Rattle.ms_lines.specs.Buffers.{IsLineLen, HasNoLine, IsEndOf, LacksLine};
+ghost use Rattle.ms_lines.specs.Buffers.{IsLineLen, HasNoLine, BeginsNotBlank, IsEndOf, LacksLine};
 ghost use Rattle.ms_lines.specs.Feeding.{item_of, SaysThen, SaysAtEnd, IsShorter, LosesLine, GivesSome};
 
 mod arguments;
@@ -79,22 +79,46 @@ impl Lines {
         self.rest.push(piece)
     }
 
-    /// The next command or bad line among the whole lines.
+    /// The next command or bad line among the whole lines. Where there is none, nothing is kept of the script but the
+    /// lines of an open text and the front of one line, outside of a text without the blanks before it.
     pub fn next_command(&mut self, alloc: Global) -> Result<Fed, OutOfMemory>
         ensures said { IfOk result (λ fed. SaysThen self.old (item_of fed) self.new) }
         ensures whole { IfOk result (λ fed. item_of fed ≡ None → HasNoLine self.new.rest) }
+        ensures passed { IfOk result (λ fed. item_of fed ≡ None → self.new.text ≡ None → BeginsNotBlank self.new.rest) }
         ensures some { IfOk result GivesSome }
         ensures kept { IsEndOf self.old.rest self.new.rest }
         ensures shorter { IfOk result (λ fed. LosesLine fed self.old.rest self.new.rest) }
         ensures err { OnErr result (SaysThen self.old None self.new) }
     {
-        while let Some(len) = self.rest.line_len() {
+        while let Some(len) = self.next_line() {
             match self.take_line(alloc, len)? {
                 Fed::NotYet => {}
                 fed => return Ok(fed),
             }
         }
         Ok(Fed::NotYet)
+    }
+
+    /// How many bytes the next line has before its line end, where one has it.
+    fn next_line(&mut self) -> Option<usize>
+        ensures said { SaysThen self.old None self.new }
+        ensures found { MatchOption result (HasNoLine self.new.rest) (IsLineLen self.new.rest) }
+        ensures passed { self.new.text ≡ None → BeginsNotBlank self.new.rest }
+        ensures kept { IsEndOf self.old.rest self.new.rest }
+    {
+        self.pass_blanks();
+        self.rest.line_len()
+    }
+
+    /// Passes over the spaces, tabs and line ends before a line outside of a text.
+    fn pass_blanks(&mut self)
+        ensures said { SaysThen self.old None self.new }
+        ensures passed { self.new.text ≡ None → BeginsNotBlank self.new.rest }
+        ensures kept { IsEndOf self.old.rest self.new.rest }
+    {
+        if self.text.is_none() {
+            self.rest.pass_blanks();
+        }
     }
 
     /// The next command or bad line where the script ends here: the last line may lack its line end.

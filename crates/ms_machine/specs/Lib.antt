@@ -1,3 +1,4 @@
 pub mod Replies
+pub mod Logging
 pub mod Machine
 pub mod Scripts

@@ -21,6 +21,7 @@ use Rattle.ms_machine.specs.declared.reply.Refusal.TheVariants.{Syntax, Const, L
 use Rattle.ms_solving.specs.Grounding.{core_of_calls, Grounds}
 use Rattle.ms_solving.specs.Listing.{Solves, tree_of_value}
 use Rattle.ms_solving.specs.Showing.{shows_atom}
+use Rattle.ms_machine.specs.Logging.{LogsThings}
 use Rattle.ms_machine.specs.Replies.{Output, Reply, added, grounded, assigned, released, no_effect, solved, refused}
 use Rattle.ms_copies.specs.Simplifying.{ArePlain}
 
@@ -117,13 +118,14 @@ Answers old (Solve asked limit assume) (refused Small) new = (most_tried < lengt
 -- no other reply is given
 Answers old command reply new = ⊥
 
--- What a step adds to the log, and what the log has told after it. No command gives lines yet.
-pub record Logs (old : State) (log : List Note) (new : State) : Type 0 where
-  pub lines : log ≡ []
-  pub things : new.things ≡ old.things
-  pub kept : new.kept ≡ old.kept
+-- What a step adds to the log, and what the log has told after it: where a module was joined, the declarations of the
+-- things that are new. No other command gives lines.
+abbrev pub Logs : State → Command → Reply → List Note → State → Type 0
+Logs old (Ground calls) (grounded atoms count) log new =
+    LogsThings new.join new.names old.things log new.things × (new.kept ≡ old.kept)
+Logs old command reply log new = (log ≡ []) × (new.things ≡ old.things) × (new.kept ≡ old.kept)
 
 -- In the state `old` the machine may give this output for the command and go on to `new`.
 pub record Step (old : State) (command : Command) (output : Output) (new : State) : Type 0 where
   pub answers : Answers old command output.reply new
-  pub logs : Logs old output.log new
+  pub logs : Logs old command output.reply output.log new

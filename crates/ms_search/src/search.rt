@@ -16,7 +16,8 @@ use crate::log::Log;
 use crate::steps::Target;
 use crate::wiring::MOST_KEPT;
 use ms_lits::{Ending, Numbers, OutOfMemory, Trail};
-use ms_nogood::{Nogoods, Plain, Propagate, Theory};
+use ms_nogood::{Nogoods, Propagate, Theory};
+use ms_watch::Watches;
 use std::alloc::Global;
 use std::marker::{Brand, Model};
 
@@ -37,8 +38,8 @@ impl<P: Propagate + Drop> Model for SearchBy<P> {
     ghost invariant = { λ s. (s.engine.trail.entries ≡ []) × (s.engine.trail.level ≡ 0) × (s.engine.decisions.items ≡ []) };
 }
 
-/// The search.
-pub type Search = SearchBy<Plain>;
+/// The search by watched literals.
+pub type Search = SearchBy<Watches>;
 
 impl<P: Propagate + Drop> SearchBy<P> {
     /// A search to which nothing is attached.

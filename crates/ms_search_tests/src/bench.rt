@@ -30,7 +30,7 @@ impl Model for Bench {
 
     ghost view = { λ b. b.vars };
 
-    ghost invariant = { λ b. IsBench b.vars b.atoms b.search.propagation b.store };
+    ghost invariant = { λ b. IsBench b.vars b.atoms b.search b.store };
 }
 
 impl Bench {

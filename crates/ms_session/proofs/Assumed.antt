@@ -20,6 +20,7 @@ use Rattle.ms_lits.specs.declared.note.Ending.{Ending}
 use Rattle.ms_lits.specs.declared.note.Ending.TheVariants.{Complete, StillOpen, Cut}
 use Rattle.ms_join.specs.AnswerSets.{IsAtomSet, set_of}
 use Rattle.ms_join.specs.Modules.{Join, rules_of}
+use Rattle.ms_complete.specs.Numbering.{Numbering}
 use Rattle.ms_term.specs.Terms.{term_at}
 use Rattle.ms_machine.specs.declared.reply.Reply.{Reply}
 use Rattle.ms_machine.specs.declared.reply.Reply.TheVariants.{Added, Grounded, Assigned, Released, NoEffect, Solved, Refused}
@@ -156,23 +157,23 @@ solves_none shows names join assume asked some none = record {
 }
 
 -- what is listed by numbers is a step of the machine
-pub lists_step : (table : List Tree) (texts : Texts) (base : List ℕ) (join : Join) (assume : List Assumption) (lits : List AtomLit) (asked limit : ℕ) (reply : Reply)
-    → length base ≤ 20 → IsSound table base join → MeetSame (map (term_at table) base) assume lits → ListsAs table texts base join lits asked limit reply
-    → Answers (state_by table texts base join) (Solve asked limit assume) (said_by table reply) (state_by table texts base join)
-lists_step table texts base join assume lits asked limit (Solved ending count most shown) few s same h =
+pub lists_step : (table : List Tree) (texts : Texts) (base : List ℕ) (join : Join) (numbering : Numbering) (assume : List Assumption) (lits : List AtomLit) (asked limit : ℕ) (reply : Reply)
+    → length base ≤ 20 → IsSound table base join numbering → MeetSame (map (term_at table) base) assume lits → ListsAs table texts base join lits asked limit reply
+    → Answers (state_by table texts base join numbering.things) (Solve asked limit assume) (said_by table reply) (state_by table texts base join numbering.things)
+lists_step table texts base join numbering assume lits asked limit (Solved ending count most shown) few s same h =
     (omega (arith, length-map base (term_at table)), solves table texts base join assume lits asked limit ending count most shown s.counted same h, h.4, h.5, refl)
-lists_step table texts base join assume lits asked limit (Added count) few s same h = elim h [ ]
-lists_step table texts base join assume lits asked limit (Grounded atoms rules) few s same h = elim h [ ]
-lists_step table texts base join assume lits asked limit Assigned few s same h = elim h [ ]
-lists_step table texts base join assume lits asked limit Released few s same h = elim h [ ]
-lists_step table texts base join assume lits asked limit NoEffect few s same h = elim h [ ]
-lists_step table texts base join assume lits asked limit (Refused refusal) few s same h = elim h [ ]
+lists_step table texts base join numbering assume lits asked limit (Added count) few s same h = elim h [ ]
+lists_step table texts base join numbering assume lits asked limit (Grounded atoms rules) few s same h = elim h [ ]
+lists_step table texts base join numbering assume lits asked limit Assigned few s same h = elim h [ ]
+lists_step table texts base join numbering assume lits asked limit Released few s same h = elim h [ ]
+lists_step table texts base join numbering assume lits asked limit NoEffect few s same h = elim h [ ]
+lists_step table texts base join numbering assume lits asked limit (Refused refusal) few s same h = elim h [ ]
 
 -- so is that nothing is listed
-pub none_step : (table : List Tree) (texts : Texts) (base : List ℕ) (join : Join) (assume : List Assumption) (asked limit : ℕ) (shown : List (List ℕ))
+pub none_step : (table : List Tree) (texts : Texts) (base : List ℕ) (join : Join) (numbering : Numbering) (assume : List Assumption) (asked limit : ℕ) (shown : List (List ℕ))
     → length base ≤ 20 → 1 ≤ asked → NoneMeets (map (term_at table) base) assume → shown ≡ []
-    → Answers (state_by table texts base join) (Solve asked limit assume) (said_by table (Solved Complete 0 limit shown)) (state_by table texts base join)
-none_step table texts base join assume asked limit shown few some none is = (
+    → Answers (state_by table texts base join numbering.things) (Solve asked limit assume) (said_by table (Solved Complete 0 limit shown)) (state_by table texts base join numbering.things)
+none_step table texts base join numbering assume asked limit shown few some none is = (
   omega (arith, length-map base (term_at table)),
   subst (λ (list : List (List ℕ)). Solves (shows_atom texts) (map (term_at table) base) join assume asked Complete 0 (map (map (term_at table)) list)) (sym is)
       (solves_none (shows_atom texts) (map (term_at table) base) join assume asked some none),

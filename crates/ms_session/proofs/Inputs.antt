@@ -13,16 +13,17 @@ use Rattle.ms_module.specs.Inputs.{Assigns, Releases}
 use Rattle.ms_value.specs.Naming.{Keeps}
 use Rattle.ms_value.proofs.Tables.{keeps_same}
 use Rattle.ms_solving.specs.Listing.{tree_of_value}
-use Rattle.ms_machine.specs.Machine.{Answers, IsInputNamed}
+use Rattle.ms_machine.specs.Machine.{Answers, IsInputNamed, Logs}
 use Rattle.ms_machine.specs.Replies.{assigned, no_effect, released}
 use Rattle.ms_machine.specs.declared.reply.Reply.TheVariants.{Assigned, NoEffect, Released}
 use Rattle.ms_session.specs.declared.open_session.Open.{Open}
 use Rattle.ms_session.specs.Kept.{IsAtomOf, IsNumberOf}
-use Rattle.ms_session.specs.Opened.{IsStep, IsWhole, names_of, state_in}
+use Rattle.ms_session.specs.Opened.{IsReady, IsStep, IsWhole, names_of, state_in}
 
 -- nothing happened
-unchanged : (o : Open) (command : Command) → IsWhole o → Answers (state_in o) command no_effect (state_in o) → IsStep o command o NoEffect
-unchanged o command whole answers = record { answers = answers; whole = whole; named = tt; keeps = keeps_same o.terms }
+unchanged : (o : Open) (command : Command) → IsWhole o → Answers (state_in o) command no_effect (state_in o) → Logs (state_in o) command no_effect o.notes (state_in o)
+    → IsStep o command o NoEffect
+unchanged o command whole answers logs = record { answers = answers; logs = logs; whole = whole; named = tt; keeps = keeps_same o.terms }
 
 -- no atom has the term
 none_named : (o : Open) (t : Tree) (number : Option ℕ) → number ≡ None → IsNumberOf (names_of o) t number → (a : ℕ) → ¬ IsInputNamed (state_in o) t a
@@ -41,12 +42,12 @@ some_number o t number a is found = subst (λ (n : Option ℕ). IsNumberOf (name
 same_open : (old new : Open) → new ≡ record old { join = new.join } → new.join ≡ old.join → new ≡ old
 same_open old new rest same = rest ∙ ap (λ (j : Join). record old { join = j }) same
 
-module _ (old : Open) (atom : Value) (number : Option ℕ) (whole : IsWhole old) (found : IsNumberOf (names_of old) (tree_of_value atom) number) where
+module _ (old : Open) (atom : Value) (number : Option ℕ) (ready : IsReady old) (found : IsNumberOf (names_of old) (tree_of_value atom) number) where
   pub unknown_assigned : (truth : Truth) → number ≡ None → IsStep old (Assign atom truth) old NoEffect
-  unknown_assigned truth is = unchanged old (Assign atom truth) whole (none_named old (tree_of_value atom) number is found, refl)
+  unknown_assigned truth is = unchanged old (Assign atom truth) ready.whole (none_named old (tree_of_value atom) number is found, refl) (ready.silent, refl, refl)
 
   pub unknown_released : number ≡ None → IsStep old (Release atom) old NoEffect
-  unknown_released is = unchanged old (Release atom) whole (none_named old (tree_of_value atom) number is found, refl)
+  unknown_released is = unchanged old (Release atom) ready.whole (none_named old (tree_of_value atom) number is found, refl) (ready.silent, refl, refl)
 
   module _ (new : Open) (a : ℕ) (is : number ≡ Some a) (still : IsWhole new) (rest : new ≡ record old { join = new.join }) where
     here : IsAtomOf (names_of old) (tree_of_value atom) a
@@ -56,6 +57,7 @@ module _ (old : Open) (atom : Value) (number : Option ℕ) (whole : IsWhole old)
     is_assigned truth h = record {
       answers = subst (λ (o : Open). Answers (state_in old) (Assign atom truth) assigned (state_in o)) (sym rest)
           ((a, record { named = here.there; input = h.0 }, h.1), refl, refl);
+      logs = subst (λ (o : Open). Logs (state_in old) (Assign atom truth) assigned o.notes (state_in o)) (sym rest) (ready.silent, refl, refl);
       whole = still;
       named = tt;
       keeps = subst (λ (o : Open). Keeps old.terms o.terms) (sym rest) (keeps_same old.terms);
@@ -64,12 +66,13 @@ module _ (old : Open) (atom : Value) (number : Option ℕ) (whole : IsWhole old)
     pub not_assigned : (truth : Truth) → Assigns old.join a (value_of truth) new.join nothing → IsStep old (Assign atom truth) new NoEffect
     not_assigned truth h =
         subst (λ (o : Open). IsStep old (Assign atom truth) o NoEffect) (sym (same_open old new rest h.1))
-        (unchanged old (Assign atom truth) whole (no_input_named old (tree_of_value atom) a here h.0, refl))
+        (unchanged old (Assign atom truth) ready.whole (no_input_named old (tree_of_value atom) a here h.0, refl) (ready.silent, refl, refl))
 
     pub is_released : Releases old.join a new.join Done → IsStep old (Release atom) new Released
     is_released h = record {
       answers = subst (λ (o : Open). Answers (state_in old) (Release atom) released (state_in o)) (sym rest)
           ((a, record { named = here.there; input = h.0 }, h.1), refl, refl);
+      logs = subst (λ (o : Open). Logs (state_in old) (Release atom) released o.notes (state_in o)) (sym rest) (ready.silent, refl, refl);
       whole = still;
       named = tt;
       keeps = subst (λ (o : Open). Keeps old.terms o.terms) (sym rest) (keeps_same old.terms);
@@ -78,4 +81,4 @@ module _ (old : Open) (atom : Value) (number : Option ℕ) (whole : IsWhole old)
     pub not_released : Releases old.join a new.join nothing → IsStep old (Release atom) new NoEffect
     not_released h =
         subst (λ (o : Open). IsStep old (Release atom) o NoEffect) (sym (same_open old new rest h.1))
-        (unchanged old (Release atom) whole (no_input_named old (tree_of_value atom) a here h.0, refl))
+        (unchanged old (Release atom) ready.whole (no_input_named old (tree_of_value atom) a here h.0, refl) (ready.silent, refl, refl))

@@ -1,3 +1,5 @@
+mod Brought
+mod Telling
 mod Keeping
 mod Finding
 mod Rows

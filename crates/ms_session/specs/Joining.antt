@@ -1,5 +1,5 @@
 -- What joining a ground module answers, over a base that has its new atoms already.
-use Rattle.std.specs.Prelude.{ℕ, ◌≡◌, ◌+◌, ◌<◌, List, All, length, map, take, ⊤}
+use Rattle.std.specs.Prelude.{ℕ, ◌≡◌, ◌+◌, ◌<◌, ◌++◌, List, [], All, length, map, take, ⊤}
 use Rattle.ms_tree.specs.Tree.{Tree}
 use Rattle.ms_tree.specs.Text.{tree_text}
 use Rattle.ms_term.specs.Terms.{term_at}
@@ -8,10 +8,15 @@ use Rattle.ms_join.specs.declared.join_fault.JoinFault.{JoinFault}
 use Rattle.ms_join.specs.declared.join_fault.JoinFault.TheVariants.{TooMany as too_many, Redefined as redefined, CrossLoop as cross_loop, RecursiveAggregate as recursive_aggregate, OutOfMemory}
 use Rattle.ms_join.specs.Modules.{Join, IsJoined, IsWellFormed}
 use Rattle.ms_join.specs.Composability.{name_of, IsComposable, IsTooMany}
+use Rattle.ms_lits.specs.declared.note.Note.{Note}
+use Rattle.ms_things.specs.Numbers.{AreThings}
+use Rattle.ms_complete.specs.Numbering.{Numbering}
 use Rattle.ms_machine.specs.declared.reply.Reply.{Reply}
+use Rattle.ms_session.specs.declared.open_session.Open.{Open}
 use Rattle.ms_machine.specs.declared.reply.Reply.TheVariants.{Grounded, Refused}
 use Rattle.ms_machine.specs.declared.reply.Refusal.{Refusal}
 use Rattle.ms_machine.specs.declared.reply.Refusal.TheVariants.{TooMany, Redefined, CrossLoop, RecursiveAggregate}
+use Rattle.ms_machine.specs.Logging.{LogsThings}
 use Rattle.ms_machine.specs.Machine.{RedefinesAs, LoopsAs, RecursesAs}
 
 -- the base has the atoms of the join up to the mark, and then the new atoms of the module
@@ -20,6 +25,12 @@ pub record IsGrownBase (table : List Tree) (mark : ℕ) (base : List ℕ) (join 
   pub well_formed : IsWellFormed join.atoms m
   pub named : All (λ t. t < length table) base
   pub counted : length base ≡ join.atoms + m.fresh
+
+-- The things are those of the join, without those of the module.
+pub record IsGrownOver (join : Join) (things : Numbering) (base : List ℕ) (m : GroundModule) : Type 0 where
+  pub declared : AreThings join things.things
+  pub named : length things.names ≡ join.atoms
+  pub grown : base ≡ things.names ++ m.names
 
 -- each atom of the reason is one of so many
 abbrev pub AreAtomsOf : ℕ → JoinFault → Type 0
@@ -53,7 +64,14 @@ JoinsAs table mark m base join new_base new_join (Refused refusal) =
     RefusesAs (map (term_at table) base) join m refusal × (new_base ≡ take mark base) × (new_join ≡ join)
 JoinsAs table mark m base join new_base new_join reply = ⊥
 
--- where the reply is a refusal, the base and the join are as before
-abbrev pub StaysWhereRefused : List ℕ → Join → List ℕ → Join → Reply → Type 0
-StaysWhereRefused base join new_base new_join (Refused refusal) = (new_base ≡ base) × (new_join ≡ join)
-StaysWhereRefused base join new_base new_join reply = ⊤
+-- The notes declare what the new join has of things beyond the old ones, or the module was refused and there are none.
+abbrev pub DeclaresAs : List Tree → List ℕ → Join → Numbering → Numbering → List Note → Reply → Type 0
+DeclaresAs table base new_join things new_things notes (Grounded atoms rules) =
+    LogsThings new_join (map (term_at table) base) things.things notes new_things.things × (new_things.names ≡ base)
+DeclaresAs table base new_join things new_things notes (Refused refusal) = (notes ≡ []) × (new_things ≡ things)
+DeclaresAs table base new_join things new_things notes reply = ⊥
+
+-- where the reply is a refusal, the base, the join and the things are as before, and there are no lines of the log
+abbrev pub StaysWhereRefused : Open → Open → Reply → Type 0
+StaysWhereRefused old new (Refused refusal) = (new.base ≡ old.base) × (new.join ≡ old.join) × (new.things ≡ old.things) × (new.notes ≡ [])
+StaysWhereRefused old new reply = ⊤

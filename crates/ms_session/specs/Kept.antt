@@ -10,7 +10,10 @@ use Rattle.ms_base.specs.declared.truth.Truth.{Truth}
 use Rattle.ms_base.specs.declared.truth.Effect.{Effect}
 use Rattle.ms_base.specs.declared.truth.Effect.TheVariants.{Done, NoEffect}
 use Rattle.ms_join.specs.Modules.{Join, IsInput, IsAssigned, IsReleased, value_of}
+use Rattle.ms_join.specs.Things.{Thing}
 use Rattle.ms_lits.specs.declared.note.Note.{Note}
+use Rattle.ms_things.specs.Numbers.{AreThings}
+use Rattle.ms_complete.specs.Numbering.{Numbering}
 use Rattle.ms_value.specs.Naming.{Keeps}
 use Rattle.ms_machine.specs.declared.reply.Reply.{Reply as kept_reply}
 use Rattle.ms_machine.specs.declared.reply.Reply.TheVariants.{Solved}
@@ -18,29 +21,33 @@ use Rattle.ms_machine.specs.Machine.{State, Step}
 use Rattle.ms_machine.specs.Replies.{said_by}
 
 -- A session has met want of memory or hasn't. It keeps a table of terms by their names, the accepted texts, the names of
--- the atoms of the base by their numbers, the join, and the lines of the log that the last command gave.
+-- the atoms of the base by their numbers, the join, the things that the log has declared, and the lines of the log that the
+-- last command gave.
 pub record Kept : Type 0 where
   pub sealed : Bool
   pub table : List Tree
   pub texts : Texts
   pub base : List ℕ
   pub join : Join
+  pub things : List Thing
   pub notes : List Note
 
 -- the state of the machine, where these are the terms by their names
-abbrev pub state_by : List Tree → Texts → List ℕ → Join → State
-state_by table texts base join = record { texts = texts; names = map (term_at table) base; join = join; things = []; kept = [] }
+abbrev pub state_by : List Tree → Texts → List ℕ → Join → List Thing → State
+state_by table texts base join things = record { texts = texts; names = map (term_at table) base; join = join; things = things; kept = [] }
 
 -- the state of the machine that the session stands for
 abbrev pub state_of : Kept → State
-state_of k = state_by k.table k.texts k.base k.join
+state_of k = state_by k.table k.texts k.base k.join k.things
 
--- What a session keeps true until it is sealed: each atom of the base has a name of the table, and the join has the atoms
--- of the base.
-pub record IsSound (table : List Tree) (base : List ℕ) (join : Join) : Type 0 where
+-- What a session keeps true until it is sealed: each atom of the base has a name of the table, the join has the atoms of the
+-- base, and the numbered things are those of the join, with the names of the base.
+pub record IsSound (table : List Tree) (base : List ℕ) (join : Join) (numbering : Numbering) : Type 0 where
   pub named : All (λ t. t < length table) base
   pub counted : length base ≡ join.atoms
   pub few : join.atoms ≤ most_things
+  pub declared : AreThings join numbering.things
+  pub names : numbering.names ≡ base
 
 -- each name in the reply is one of a table of so many terms
 abbrev pub IsNamed : ℕ → kept_reply → Type 0
@@ -61,10 +68,10 @@ pub record IsSealed (old new : Kept) : Type 0 where
   pub sealed : new.sealed ≡ true
   pub same : old.sealed ≡ true → new ≡ old
 
--- The constant was given a value from outside, and nothing else changed.
+-- The constant was given a value from outside, and nothing else changed. No lines of the log stand.
 pub record IsGiven (old : Kept) (name : List ℕ) (value : Value) (new : Kept) : Type 0 where
   pub was_open : old.sealed ≡ false
-  pub given : new ≡ record old { texts = with_given old.texts name value }
+  pub given : new ≡ record old { texts = with_given old.texts name value; notes = [] }
 
 -- the atom with this term has this number, and no other has
 pub record IsAtomOf (names : List Tree) (t : Tree) (a : ℕ) : Type 0 where
@@ -75,20 +82,21 @@ pub record IsAtomOf (names : List Tree) (t : Tree) (a : ℕ) : Type 0 where
 abbrev pub IsNumberOf : List Tree → Tree → Option ℕ → Type 0
 IsNumberOf names t number = MatchOption number (¬ Contains names t) (IsAtomOf names t)
 
--- The base has the atom with this term under this number, or none. Nothing changes, and no lines of the log stand.
+-- The base has the atom with this term under this number, or none. Nothing changes, and the last command's lines of the log
+-- stand.
 pub record IsFound (old : Kept) (t : Tree) (new : Kept) (number : Option ℕ) : Type 0 where
   pub was_open : old.sealed ≡ false
   pub same : new ≡ old
-  pub silent : old.notes ≡ []
   pub found : IsNumberOf (state_of old).names t number
 
--- The input has this truth from now on, and nothing else changes. Nothing at all does where the atom is no input.
+-- The input has this truth from now on, and nothing else changes. Nothing does where the atom is no input. No lines of the
+-- log stand.
 abbrev pub Assigns : Kept → ℕ → Truth → Kept → Effect → Type 0
-Assigns old a truth new Done = IsInput old.join a × IsAssigned old.join a (value_of truth) new.join × (new ≡ record old { join = new.join })
-Assigns old a truth new NoEffect = (¬ IsInput old.join a) × (new ≡ old)
+Assigns old a truth new Done = IsInput old.join a × IsAssigned old.join a (value_of truth) new.join × (new ≡ record old { join = new.join; notes = [] })
+Assigns old a truth new NoEffect = (¬ IsInput old.join a) × (new ≡ record old { notes = [] })
 
--- The input is an output without a rule from now on, and nothing else changes. Nothing at all does where the atom is
--- no input.
+-- The input is an output without a rule from now on, and nothing else changes. Nothing does where the atom is no input. No
+-- lines of the log stand.
 abbrev pub Releases : Kept → ℕ → Kept → Effect → Type 0
-Releases old a new Done = IsInput old.join a × IsReleased old.join a new.join × (new ≡ record old { join = new.join })
-Releases old a new NoEffect = (¬ IsInput old.join a) × (new ≡ old)
+Releases old a new Done = IsInput old.join a × IsReleased old.join a new.join × (new ≡ record old { join = new.join; notes = [] })
+Releases old a new NoEffect = (¬ IsInput old.join a) × (new ≡ record old { notes = [] })

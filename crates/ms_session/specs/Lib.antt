@@ -1,4 +1,5 @@
 pub mod ReadText
+pub mod Declaring
 pub mod Kept
 pub mod Naming
 pub mod Steps

@@ -1,8 +1,8 @@
 // Grounding calls and joining their module.
-ghost use Rattle.std.specs.Prelude.{◌≡◌, ◌<◌, ◌++◌, All, IfOk, OnOk, length, map};
+ghost use Rattle.std.specs.Prelude.{◌≡◌, ◌<◌, ◌++◌, [], All, IfOk, OnOk, length, map};
 ghost use Rattle.ms_call.specs.declared.command.Command.TheVariants.{Ground};
-ghost use Rattle.ms_session.specs.Joining.{AreAtomsOf, IsRefusalOf, IsGrownBase, JoinsAs, StaysWhereRefused};
-ghost use Rattle.ms_session.specs.Opened.{IsStep, IsWhole, names_of};
+ghost use Rattle.ms_session.specs.Joining.{AreAtomsOf, DeclaresAs, IsRefusalOf, IsGrownBase, IsGrownOver, JoinsAs, StaysWhereRefused};
+ghost use Rattle.ms_session.specs.Opened.{IsReady, IsStep, names_of};
 
 use crate::open_session::Open;
 use ms_atombase::Mark;
@@ -17,7 +17,7 @@ use std::alloc::Global;
 impl Open {
     /// Grounds the calls over the base, and joins their module or refuses it. Where it is refused nothing changed.
     pub fn ground(&mut self, alloc: Global, calls: &Calls) -> Result<Reply, OutOfMemory>
-        requires { IsWhole self.old }
+        requires { IsReady self.old }
         ensures { IfOk result (IsStep self.old (Ground calls.now) self.new) }
     {
         let mark = self.terms.mark();
@@ -32,9 +32,9 @@ impl Open {
 
     /// The same, but where it is refused the table may have new terms.
     fn ground_and_join(&mut self, alloc: Global, calls: &Calls) -> Result<Reply, OutOfMemory>
-        requires { IsWhole self.old }
+        requires { IsReady self.old }
         ensures step { IfOk result (IsStep self.old (Ground calls.now) self.new) }
-        ensures back { IfOk result (StaysWhereRefused self.old.base self.old.join self.new.base self.new.join) }
+        ensures back { IfOk result (StaysWhereRefused self.old self.new) }
         ensures texts { self.new.parts ≡ self.old.parts }
     {
         let mark = self.base.mark();
@@ -54,17 +54,21 @@ impl Open {
     }
 
     /// Joins a module whose new atoms are in the base since the mark, or refuses it. Where it is refused the base goes
-    /// back to the mark.
+    /// back to the mark. The things that the join gets are declared by lines of the log.
     fn join_module(
         &mut self,
         alloc: Global,
         mark: Mark,
         ground_module: &GroundModule,
     ) -> Result<Reply, OutOfMemory>
-        requires { IsGrownBase self.old.terms mark self.old.base self.old.join ground_module.now }
+        requires base { IsGrownBase self.old.terms mark self.old.base self.old.join ground_module.now }
+        requires things { IsGrownOver self.old.join self.old.things self.old.base ground_module.now }
+        requires silent { self.old.notes ≡ [] }
         ensures joins { IfOk result (JoinsAs self.old.terms mark ground_module.now
             self.old.base self.old.join self.new.base self.new.join) }
-        ensures rest { self.new ≡ record self.old { base = self.new.base; join = self.new.join } }
+        ensures declares { IfOk result (DeclaresAs self.old.terms self.old.base self.new.join
+            self.old.things self.new.things self.new.notes) }
+        ensures rest { self.new ≡ record self.old { base = self.new.base; join = self.new.join; things = self.new.things; notes = self.new.notes } }
     {
         // The join says that its rules are over its base.
         let _ = self.join.rules();
@@ -73,6 +77,7 @@ impl Open {
                 let atoms = ground_module.names.len() as u64;
                 let rules = ground_module.rules.len() as u64;
                 self.join.join(ground_module)?;
+                self.notes = self.things.extend(&self.terms, ground_module)?;
                 Ok(Reply::Grounded { atoms, rules })
             }
             Err(fault) => {

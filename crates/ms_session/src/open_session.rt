@@ -1,5 +1,5 @@
 // What a session has until it is sealed.
-ghost use Rattle.std.specs.Prelude.{◌≡◌, ◌++◌, IfOk, OnOk, OnErr, length};
+ghost use Rattle.std.specs.Prelude.{◌≡◌, ◌++◌, [], IfOk, OnOk, OnErr, length};
 ghost use Rattle.ms_call.specs.declared.command.Command.TheVariants.{Add, Assign, Release};
 ghost use Rattle.ms_call.specs.Commands.{AsksForSome};
 ghost use Rattle.ms_join.specs.Modules.{value_of};
@@ -7,30 +7,35 @@ ghost use Rattle.ms_module.specs.Inputs.{Assigns, Releases};
 ghost use Rattle.ms_machine.specs.Machine.{start};
 ghost use Rattle.ms_machine.specs.Replies.{reply_text, said_by};
 ghost use Rattle.ms_session.specs.Kept.{IsNamed};
-ghost use Rattle.ms_session.specs.Opened.{IsStep, IsWhole, state_in};
+ghost use Rattle.ms_session.specs.Opened.{IsReady, IsStep, IsWhole, state_in};
 
 use crate::adding::add_text;
 use crate::reply_text::print;
+use crate::things::Things;
 use ms_atombase::AtomBase;
 use ms_base::atom_id::AtomId;
 use ms_base::memory::OutOfMemory;
+use ms_base::seq::Seq;
 use ms_base::truth::{Effect, Truth};
 use ms_call::command::Command;
 use ms_grammar::value::Value;
+use ms_lits::Notes;
 use ms_machine::reply::Reply;
 use ms_module::Join;
 use ms_parts::Parts;
 use ms_term::Terms;
 use std::alloc::Global;
 
-/// The accepted texts, the names of terms, the atoms of the base, and the join. A call that answers want of memory
-/// leaves anything here.
+/// The accepted texts, the names of terms, the atoms of the base, the join, its things, and the lines of the log that the
+/// last command gave. A call that answers want of memory leaves anything here.
 #[derive(Drop)]
 pub(crate) struct Open {
     pub parts: Parts,
     pub terms: Terms,
     pub base: AtomBase,
     pub join: Join,
+    pub things: Things,
+    pub notes: Notes,
 }
 
 impl Open {
@@ -44,12 +49,21 @@ impl Open {
             terms: Terms::new(alloc),
             base: AtomBase::new(alloc),
             join: Join::new(alloc),
+            things: Things::new(alloc),
+            notes: Seq::new(alloc),
         }
+    }
+
+    /// Begins a command: no lines of the log stand from the one before.
+    pub fn begin(&mut self)
+        ensures { self.new ≡ record self.old { notes = [] } }
+    {
+        self.notes.truncate(0);
     }
 
     /// Adds a text to the accepted ones, or refuses it.
     pub fn add(&mut self, alloc: Global, text: &[u8]) -> Result<Reply, OutOfMemory>
-        requires { IsWhole self.old }
+        requires { IsReady self.old }
         ensures { IfOk result (IsStep self.old (Add text.now) self.new) }
     {
         add_text(alloc, &mut self.parts, text)
@@ -77,7 +91,7 @@ impl Open {
 
     /// One step of the machine.
     pub fn step(&mut self, alloc: Global, command: Command) -> Result<Reply, OutOfMemory>
-        requires whole { IsWhole self.old }
+        requires ready { IsReady self.old }
         requires asks { AsksForSome command }
         ensures { IfOk result (IsStep self.old command self.new) }
     {
@@ -101,7 +115,7 @@ impl Open {
         atom: &Value,
         truth: Truth,
     ) -> Result<Reply, OutOfMemory>
-        requires { IsWhole self.old }
+        requires { IsReady self.old }
         ensures { IfOk result (IsStep self.old (Assign atom.now truth) self.new) }
     {
         let Some(a) = self.find(alloc, atom)? else {
@@ -115,7 +129,7 @@ impl Open {
 
     /// Releases the atom with this term.
     fn release_named(&mut self, alloc: Global, atom: &Value) -> Result<Reply, OutOfMemory>
-        requires { IsWhole self.old }
+        requires { IsReady self.old }
         ensures { IfOk result (IsStep self.old (Release atom.now) self.new) }
     {
         let Some(a) = self.find(alloc, atom)? else {

@@ -12,7 +12,6 @@ ghost use Rattle.ms_call.specs.Commands.{AsksForSome};
 use crate::open_session::Open;
 use ms_base::atom_id::AtomId;
 use ms_base::memory::OutOfMemory;
-use ms_base::seq::Seq;
 use ms_base::truth::{Effect, Truth};
 use ms_call::command::{Assumptions, Calls, Command};
 use ms_grammar::value::Value;
@@ -29,11 +28,10 @@ use std::marker::Model;
 pub struct Session {
     open: Open,
     sealed: bool,
-    notes: Notes,
 }
 
 impl Model for Session {
-    ghost use Rattle.std.specs.Prelude.{◌≡◌, [], false};
+    ghost use Rattle.std.specs.Prelude.{◌≡◌, false};
     ghost use Rattle.std.specs.Coded.{codes};
     ghost use Rattle.ms_term.specs.TreeCode.{tree_code};
     ghost use Rattle.ms_grammar.specs.contracts.term.TextTerm as term;
@@ -45,9 +43,9 @@ impl Model for Session {
 
     ghost coded = { Prim.hlevel (codes, tree_code, term.the_row.coded, value.the_row.coded) };
 
-    ghost view = { λ s. record { sealed = s.sealed; table = s.open.terms; texts = s.open.parts; base = s.open.base; join = s.open.join; notes = s.notes } };
+    ghost view = { λ s. record { sealed = s.sealed; table = s.open.terms; texts = s.open.parts; base = s.open.base; join = s.open.join; things = s.open.things.things; notes = s.open.notes } };
 
-    ghost invariant = { λ s. (s.notes ≡ []) × (s.sealed ≡ false → IsWhole s.open) };
+    ghost invariant = { λ s. s.sealed ≡ false → IsWhole s.open };
 }
 
 impl Session {
@@ -59,7 +57,6 @@ impl Session {
         Session {
             open: Open::new(alloc),
             sealed: false,
-            notes: Seq::new(alloc),
         }
     }
 
@@ -70,11 +67,11 @@ impl Session {
         self.sealed
     }
 
-    /// The lines of the log that the last command gave. No command gives any yet.
+    /// The lines of the log that the last command gave. A look-up leaves them.
     pub fn notes(&self) -> &Notes
         ensures { result.now ≡ self.now.notes }
     {
-        &self.notes
+        &self.open.notes
     }
 
     /// The value of a constant, or none exactly where no such constant is known.
@@ -92,11 +89,12 @@ impl Session {
         if self.sealed {
             return Err(OutOfMemory);
         }
+        self.open.begin();
         let given = self.open.parts.set_const(name, value);
         seal_on_failure(&mut self.sealed, given)
     }
 
-    /// The number of an atom, or none exactly where the base has no such atom. Nothing else is kept of the look-up.
+    /// The number of an atom, or none exactly where the base has no such atom. Nothing is kept of the look-up.
     pub fn find(&mut self, alloc: Global, atom: &Value) -> Result<Option<AtomId>, OutOfMemory>
         ensures ok { IfOk result (IsFound self.old (tree_of_value atom.now) self.new) }
         ensures err { OnErr result (IsSealed self.old self.new) }
@@ -119,6 +117,7 @@ impl Session {
         if self.sealed {
             return Err(OutOfMemory);
         }
+        self.open.begin();
         Ok(self.open.assign(a, truth))
     }
 
@@ -133,6 +132,7 @@ impl Session {
         if self.sealed {
             return Err(OutOfMemory);
         }
+        self.open.begin();
         Ok(self.open.release(a))
     }
 
@@ -144,6 +144,7 @@ impl Session {
         if self.sealed {
             return Err(OutOfMemory);
         }
+        self.open.begin();
         let reply = self.open.add(alloc, text);
         seal_on_failure(&mut self.sealed, reply)
     }
@@ -156,6 +157,7 @@ impl Session {
         if self.sealed {
             return Err(OutOfMemory);
         }
+        self.open.begin();
         let reply = self.open.ground(alloc, calls);
         seal_on_failure(&mut self.sealed, reply)
     }
@@ -176,6 +178,7 @@ impl Session {
         if self.sealed {
             return Err(OutOfMemory);
         }
+        self.open.begin();
         let reply = self.open.solve(alloc, count, limit, assume);
         seal_on_failure(&mut self.sealed, reply)
     }
@@ -190,6 +193,7 @@ impl Session {
         if self.sealed {
             return Err(OutOfMemory);
         }
+        self.open.begin();
         let reply = self.open.step(alloc, command);
         seal_on_failure(&mut self.sealed, reply)
     }

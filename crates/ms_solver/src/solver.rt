@@ -9,9 +9,10 @@ use ms_base::seq::Seq;
 use ms_complete::Complete;
 use ms_lits::Numbers;
 use ms_loops::inputs_keep_consequences;
-use ms_nogood::{Nogoods, Plain, Propagate};
+use ms_nogood::{Nogoods, Propagate};
 use ms_search::SearchBy;
 use ms_unfound::Unfounded;
+use ms_watch::Watches;
 use std::alloc::Global;
 use std::marker::Model;
 
@@ -39,8 +40,8 @@ impl<P: Propagate + Drop> Model for SolverBy<P> {
     ghost view = { λ s. record { knows = record { store = s.store; numbering = s.completion; loops = s.loops; atoms = s.atoms; sleepers = s.sleepers }; search = s.search } };
 }
 
-/// The solver.
-pub type Solver = SolverBy<Plain>;
+/// The solver, by watched literals.
+pub type Solver = SolverBy<Watches>;
 
 impl<P: Propagate + Drop> SolverBy<P> {
     /// The solver of the join of no modules, which takes no memory.

@@ -1,4 +1,4 @@
-pub mod Input
+pub mod Sinks
 pub mod Outcome
 pub mod Serving
 pub mod Words

@@ -33,11 +33,24 @@ fn words(rt: &HostRuntime) -> Result<Vec<String>, Status> {
     }
 }
 
-/// Answers the script on standard input.
+/// Whether the words ask for the log.
+fn ask_for_log(words: &[String]) -> bool {
+    match words.first() {
+        Some(word) => word.as_str() == "log",
+        None => false,
+    }
+}
+
+/// Serves the script on standard input.
 fn run(rt: &HostRuntime, words: &Vec<String>) -> Status {
     let mut input = StdSource::new(rt.stdin());
     let mut output = StdSink::new(rt.stdout());
-    mshot(rt.alloc(), words, &mut input, &mut output, &mut NoSink)
+    if ask_for_log(words.as_slice()) {
+        let mut log = StdSink::new(rt.stderr());
+        mshot(rt.alloc(), words, &mut input, &mut output, &mut log)
+    } else {
+        mshot(rt.alloc(), words, &mut input, &mut output, &mut NoSink)
+    }
 }
 
 fn main(rt: HostRuntime) -> ExitCode {
@@ -46,7 +59,7 @@ fn main(rt: HostRuntime) -> ExitCode {
         Err(status) => status,
     };
     if status == Status::Usage {
-        let _ = rt.eprintln("usage: mshot run");
+        let _ = rt.eprintln("usage: mshot [log] run");
     }
     ExitCode::from(exit_code(status))
 }

@@ -579,14 +579,23 @@ fn brackets_may_be_deep(rt: HostRuntime) -> Result<(), Fail> {
 fn each_fault_ends_the_call(rt: HostRuntime) -> Result<(), Fail> {
     let alloc = rt.alloc();
     let script = TWO_RULES.as_bytes();
-    // The source gives 7 bytes a call: 9 calls for the script, and one that finds its end.
+    // The source gives 7 bytes a call: 9 calls for the script, and one that finds its end. The first command ends with
+    // byte 34, the second with byte 47, and the last with byte 58.
     assert_eq!(rt; script.len(), 58);
-    for failing in 0..10 {
+    for (failing, replies) in [
+        (0, ""),
+        (4, ""),
+        (5, "added 2\n"),
+        (6, "added 2\n"),
+        (7, "added 2\ngrounded atoms=2 rules=2\n"),
+        (8, "added 2\ngrounded atoms=2 rules=2\n"),
+        (9, TWO_REPLIES),
+    ] {
         let outcome = call(alloc, &["run"], script, &[failing], &[], ROOM)?;
         assert_eq!(rt; outcome.status, Status::ReadFault, "take {failing}");
         assert_eq!(rt;
             outcome.written.as_slice(),
-            b"".as_slice(),
+            replies.as_bytes(),
             "take {failing}"
         );
     }

@@ -14,4 +14,4 @@ returns-in_ok-refusal-in-Err-clause-joins c =
 pub refusal_of-requires-clause-within : goal.refusal_of-requires-clause-within
 refusal_of-requires-clause-within c =
     let s = c.args.self.now in
-    atoms_within (names_of s) s.join c.args.ground_module.now (length s.base) c.in-Err.fault c.requires.counted c.rules.ensures.join c.requires.well_formed c.in-Err.ensures
+    atoms_within (names_of s) s.join c.args.ground_module.now (length s.base) c.in-Err.fault c.requires.base.counted c.rules.ensures.join c.requires.base.well_formed c.in-Err.ensures

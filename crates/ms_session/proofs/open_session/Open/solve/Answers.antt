@@ -18,7 +18,7 @@ returns-in-Some-clause-step c =
     (meet_alike names c.args.assume.now c.in-Some.lits.items c.each_once-lits.result.items c.each_once-lits.ensures
     (subst (λ (assume : List Assumption). MeetSame names assume c.in-Some.lits.items) c.as_slice.ensures by_items)) in
     IfOk-weaker c.list_answers.result _ _
-    (λ reply h. lists_step s.terms s.parts s.base s.join c.args.assume.now c.as_slice-in-Some.result.now c.args.count c.args.limit reply few c.requires.whole same h)
+    (λ reply h. lists_step s.terms s.parts s.base s.join s.things c.args.assume.now c.as_slice-in-Some.result.now c.args.count c.args.limit reply few c.requires.whole same h)
     c.list_answers.ensures.lists
 
 pub returns-in-None-clause-step : goal.returns-in-None-clause-step
@@ -27,5 +27,5 @@ returns-in-None-clause-step c =
     let few : length s.base ≤ 20 = omega arith in
     let names = names_of s in
     let none = rw c.in-None.is at c.in_ok-lits.ensures in
-    none_step s.terms s.parts s.base s.join c.args.assume.now c.args.count c.args.limit c.new.result
+    none_step s.terms s.parts s.base s.join s.things c.args.assume.now c.args.count c.args.limit c.new.result
     few c.requires.asked (subst (λ (assume : List Assumption). NoneMeets names assume) c.as_slice.ensures none) c.new.ensures

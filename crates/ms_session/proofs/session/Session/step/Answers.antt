@@ -5,5 +5,5 @@ pub returns-clause-ok : goal.returns-clause-ok
 returns-clause-ok c =
     let s = c.self.inside in
     rw (← c.self.view_is)
-    (done s.sealed c.seal_on_failure.new.sealed s.open c.step-reply.new.self s.notes c.args.command c.seal_on_failure.result c.step-reply.result
-    c.seal_on_failure.ensures.same c.if-self.false c.seal_on_failure.ensures.sealed c.self.invariant.0 c.step-reply.ensures)
+    (done s.sealed c.seal_on_failure.new.sealed s.open c.begin.new.self c.step-reply.new.self c.args.command c.seal_on_failure.result c.step-reply.result
+    c.seal_on_failure.ensures.same c.if-self.false c.seal_on_failure.ensures.sealed c.begin.ensures c.step-reply.ensures)
