@@ -1,28 +1,36 @@
 -- The machine that keeps only the accepted texts and one join of ground modules, and solves it anew each time. Beside its
 -- state it knows what the log has told.
-use Rattle.std.specs.Prelude.{ℕ, ◌≡◌, ◌≢◌, ◌<◌, ◌≤◌, ◌++◌, List, [], length, slice_get, Some, None}
+use Rattle.std.specs.Prelude.{ℕ, ◌≡◌, ◌↔◌, ◌<◌, ◌++◌, true, List, [], All, Any, Contains, length, map, slice_get, Some, None}
 use Rattle.ms_tree.specs.Tree.{Tree}
 use Rattle.ms_tree.specs.Text.{tree_text}
 use Rattle.ms_grammar.specs.declared.statement.Statement.{Statement}
 use Rattle.ms_grammar.specs.Statements.{Reads, IsNoText}
 use Rattle.ms_core.specs.Texts.{Texts, no_texts, with_text, const_twice}
+use Rattle.ms_call.specs.declared.command.Assumption.{Assumption}
 use Rattle.ms_call.specs.declared.command.Call.{Call}
 use Rattle.ms_call.specs.declared.command.Command.{Command}
 use Rattle.ms_call.specs.declared.command.Command.TheVariants.{Add, Ground, Assign, Release, Solve}
+use Rattle.ms_join.specs.declared.assumption.AtomAsk.{AtomAsk}
+use Rattle.ms_join.specs.declared.assumption.AtomLit.{AtomLit}
 use Rattle.ms_join.specs.declared.ground_module.GroundModule.{GroundModule}
 use Rattle.ms_join.specs.Modules.{Join, no_join, IsInput, IsJoined, IsAssigned, IsReleased, value_of}
 use Rattle.ms_join.specs.Composability.{name_of, IsComposable, IsTooMany, IsFirstRedefined, IsFirstLoop, IsFirstRecursive}
 use Rattle.ms_join.specs.Things.{Thing}
 use Rattle.ms_lits.specs.Literals.{Nogood}
 use Rattle.ms_lits.specs.declared.note.Note.{Note}
-use Rattle.ms_lits.specs.declared.note.Ending.TheVariants.{Cut}
+use Rattle.ms_lits.specs.declared.lit.Lit.{Lit}
+use Rattle.ms_lits.specs.declared.note.Ending.{Ending}
+use Rattle.ms_lawful.specs.Lines.{answers_in}
+use Rattle.ms_lawful.specs.Parts.{IsSolvePart, kept_after, last_of, most_kept}
+use Rattle.ms_problem.specs.Numbered.{AreNumbers, numbers_in}
+use Rattle.ms_problem.specs.Solves.{Demands, problem_of}
 use Rattle.ms_copies.specs.Limits.{IsTooLarge}
-use Rattle.ms_machine.specs.declared.reply.Refusal.TheVariants.{Syntax, Const, Later, TooLarge, TooMany, Redefined, CrossLoop, RecursiveAggregate, Small}
+use Rattle.ms_machine.specs.declared.reply.Refusal.TheVariants.{Syntax, Const, Later, TooLarge, TooMany, Redefined, CrossLoop, RecursiveAggregate}
 use Rattle.ms_solving.specs.Grounding.{core_of_calls, Grounds}
-use Rattle.ms_solving.specs.Listing.{Solves, tree_of_value}
+use Rattle.ms_solving.specs.Listing.{IsListing, Solves, tree_of_value}
 use Rattle.ms_solving.specs.Showing.{shows_atom}
 use Rattle.ms_machine.specs.Logging.{LogsThings}
-use Rattle.ms_machine.specs.Replies.{Output, Reply, added, grounded, assigned, released, no_effect, solved, refused}
+use Rattle.ms_machine.specs.Replies.{Output, Reply, ending_text, added, grounded, assigned, released, no_effect, solved, refused}
 use Rattle.ms_copies.specs.Simplifying.{ArePlain}
 
 -- What the machine keeps: the accepted texts, the terms of the atoms of the base by their numbers, and the join; and what
@@ -37,10 +45,6 @@ pub record State : Type 0 where
 -- before the first command
 abbrev pub start : State
 start = record { texts = no_texts; names = []; join = no_join; things = []; kept = [] }
-
--- how many atoms a base may have of which every set is tried
-abbrev pub most_tried : ℕ
-most_tried = 20
 
 -- The number of the atom of the base that has this term, where it is an input.
 pub record IsInputNamed (s : State) (t : Tree) (a : ℕ) : Type 0 where
@@ -110,19 +114,51 @@ Answers old (Release atom) released new =
     ((a : ℕ) × IsInputNamed old (tree_of_value atom) a × IsReleased old.join a new.join)
     × (new.texts ≡ old.texts) × (new.names ≡ old.names)
 Answers old (Release atom) no_effect new = ((a : ℕ) → ¬ IsInputNamed old (tree_of_value atom) a) × (new ≡ old)
--- every set is tried, so no solve is cut
 Answers old (Solve asked limit assume) (solved ending count most listing) new =
-    (length old.names ≤ most_tried) × Solves (shows_atom old.texts) old.names old.join assume asked ending count listing
-    × (most ≡ limit) × (ending ≢ Cut) × (new ≡ old)
-Answers old (Solve asked limit assume) (refused Small) new = (most_tried < length old.names) × (new ≡ old)
+    Solves (shows_atom old.texts) old.names old.join assume asked ending count listing
+    × (most ≡ limit) × (new.texts ≡ old.texts) × (new.names ≡ old.names) × (new.join ≡ old.join)
 -- no other reply is given
 Answers old command reply new = ⊥
 
+-- What is demanded of an atom: the value of an input that isn't free, or what is assumed.
+pub data IsDemanded (s : State) (assume : List Assumption) (lit : AtomLit) : Type 0 where
+  by_input : Contains s.join.inputs (record { atom = lit.atom; value = Some lit.truth }) → IsDemanded s assume lit
+  by_assumption : Any (λ given. (slice_get s.names lit.atom ≡ Some (tree_of_value given.atom)) × (lit.truth ≡ given.truth)) assume → IsDemanded s assume lit
+
+-- An atom outside the base is assumed true.
+abbrev pub IsImpossible : State → List Assumption → Type 0
+IsImpossible s assume = Any (λ given. (given.truth ≡ true) × ¬ Contains s.names (tree_of_value given.atom)) assume
+
+-- What the join is asked, by the numbers of atoms.
+pub record IsAskOf (s : State) (asked limit : ℕ) (assume : List Assumption) (ask : AtomAsk) : Type 0 where
+  pub count : ask.count ≡ asked
+  pub limit_is : ask.limit ≡ limit
+  pub each : All (IsDemanded s assume) ask.assume
+  pub all : (lit : AtomLit) → IsDemanded s assume lit → Contains ask.assume lit
+  pub impossible : (ask.impossible ≡ true) ↔ IsImpossible s assume
+
+-- The part of a solve is lawful: its nogoods follow from the completion and the loops of the join, from what was kept
+-- before and from the answers that it lists, which are those of the reply. What it keeps comes behind what was kept.
+pub record LogsSolve (old : State) (asked limit : ℕ) (assume : List Assumption) (ending : Ending) (count : ℕ) (listing : List (List Tree)) (log : List Note) (new : State) : Type 0 where
+  pub ask : AtomAsk
+  pub is_ask : IsAskOf old asked limit assume ask
+  pub numbers : List ℕ
+  pub numbered : AreNumbers old.things old.join.atoms numbers
+  pub start : List Lit
+  pub demands : Demands old.things ask start
+  pub part : IsSolvePart (problem_of old.join old.things numbers (last_of most_kept old.kept) ask start) ending (ending_text ending count limit) log
+  pub sets : List (List ℕ)
+  pub answers : answers_in log ≡ map (numbers_in old.things numbers) sets
+  pub listed : IsListing (shows_atom old.texts) old.names sets listing
+  pub things : new.things ≡ old.things
+  pub kept : new.kept ≡ kept_after old.kept log
+
 -- What a step adds to the log, and what the log has told after it: where a module was joined, the declarations of the
--- things that are new. No other command gives lines.
+-- things that are new, and the part of a solve. No other command gives lines.
 abbrev pub Logs : State → Command → Reply → List Note → State → Type 0
 Logs old (Ground calls) (grounded atoms count) log new =
     LogsThings new.join new.names old.things log new.things × (new.kept ≡ old.kept)
+Logs old (Solve asked limit assume) (solved ending count most listing) log new = LogsSolve old asked limit assume ending count listing log new
 Logs old command reply log new = (log ≡ []) × (new.things ≡ old.things) × (new.kept ≡ old.kept)
 
 -- In the state `old` the machine may give this output for the command and go on to `new`.

@@ -11,7 +11,7 @@ use Rattle.ms_lits.specs.declared.note.Ending.TheVariants.{Complete, StillOpen, 
 use Rattle.ms_machine.specs.declared.reply.Reply.{Reply as kept_reply}
 use Rattle.ms_machine.specs.declared.reply.Reply.TheVariants.{Added, Grounded, Assigned, Released, NoEffect, Solved, Refused}
 use Rattle.ms_machine.specs.declared.reply.Refusal.{Refusal}
-use Rattle.ms_machine.specs.declared.reply.Refusal.TheVariants.{Command, Unfinished, Syntax, Const, Later, TooLarge, TooMany, Redefined, CrossLoop, RecursiveAggregate, Small}
+use Rattle.ms_machine.specs.declared.reply.Refusal.TheVariants.{Command, Unfinished, Syntax, Const, Later, TooLarge, TooMany, Redefined, CrossLoop, RecursiveAggregate}
 
 -- A reply. A listing has the terms of the shown atoms of each answer set.
 pub data Reply : Type 0 where
@@ -48,10 +48,11 @@ said_by table NoEffect = no_effect
 said_by table (Solved ending count limit shown) = solved ending count limit (map (map (term_at table)) shown)
 said_by table (Refused refusal) = refused refusal
 
-abbrev pub ending_line : Ending → ℕ → ℕ → List ℕ
-ending_line Complete count limit = line (codes "complete " ++ decimal count)
-ending_line StillOpen count limit = line (codes "open " ++ decimal count)
-ending_line Cut count limit = line (codes "cut " ++ decimal count ++ codes " limit=" ++ decimal limit)
+-- how a solve ended, by the number of its answers
+abbrev pub ending_text : Ending → ℕ → ℕ → List ℕ
+ending_text Complete count limit = codes "complete " ++ decimal count
+ending_text StillOpen count limit = codes "open " ++ decimal count
+ending_text Cut count limit = codes "cut " ++ decimal count ++ codes " limit=" ++ decimal limit
 
 abbrev pub refusal_line : Refusal → List ℕ
 refusal_line Command = line (codes "refused command")
@@ -64,7 +65,6 @@ refusal_line TooMany = line (codes "refused too-many")
 refusal_line (Redefined atom) = line (codes "refused redefined " ++ atom)
 refusal_line (CrossLoop new_head old) = line (codes "refused loop " ++ new_head ++ 32 ∷ old)
 refusal_line (RecursiveAggregate atom) = line (codes "refused aggregate " ++ atom)
-refusal_line Small = line (codes "refused small")
 
 abbrev pub reply_text : Reply → List ℕ
 reply_text (added count) = line (codes "added " ++ decimal count)
@@ -72,7 +72,7 @@ reply_text (grounded atoms rules) = line (codes "grounded atoms=" ++ decimal ato
 reply_text assigned = line (codes "assigned")
 reply_text released = line (codes "released")
 reply_text no_effect = line (codes "no effect")
-reply_text (solved ending count limit listing) = flat_map answer_line listing ++ ending_line ending count limit
+reply_text (solved ending count limit listing) = flat_map answer_line listing ++ line (ending_text ending count limit)
 reply_text (refused refusal) = refusal_line refusal
 
 -- what is written for outputs, one after another

@@ -25,8 +25,6 @@ pub enum Refusal {
     CrossLoop { new_head: Bytes, old: Bytes },
     /// A head depends through an aggregate on an atom of its own component: the least such head.
     RecursiveAggregate { atom: Bytes },
-    /// The base has too many atoms to try every set of them.
-    Small,
 }
 
 /// The reply to one command.
