@@ -76,9 +76,9 @@ pub listed_without : (s new : State) (t : Tree) (command : Command) (reply : Rep
     → ((assume : List Assumption) (set : List ℕ) → IsAnswer s.names s.join assume set → ¬ HasAtom s.names set t)
     → Answers s command reply new → All (λ shown. ¬ Contains shown t) (listing_of reply)
 listed_without s new t (Solve asked limit assume) (solved ending count most listing) lacks step =
-    let lists = step.1.listed in
+    let lists = step.0.listed in
     All-permutation (λ (shown : List Tree). ¬ Contains shown t) lists.lists listing lists.same
-    (none_shown (shows_atom s.texts) s.names t step.1.sets lists.lists (λ k d within. lacks assume (get_or step.1.sets k d) (step.1.true_ones.each k d within)) lists.shown)
+    (none_shown (shows_atom s.texts) s.names t step.0.sets lists.lists (λ k d within. lacks assume (get_or step.0.sets k d) (step.0.true_ones.each k d within)) lists.shown)
 listed_without s new t (Add text) (solved ending count most listing) lacks step = absurd step
 listed_without s new t (Ground calls) (solved ending count most listing) lacks step = absurd step
 listed_without s new t (Assign atom truth) (solved ending count most listing) lacks step = absurd step

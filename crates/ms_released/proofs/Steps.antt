@@ -7,7 +7,7 @@ use Rattle.ms_call.specs.declared.command.Command.{Command}
 use Rattle.ms_call.specs.declared.command.Command.TheVariants.{Add, Ground, Assign, Release, Solve}
 use Rattle.ms_join.specs.declared.ground_rule.Input.{Input}
 use Rattle.ms_join.specs.Modules.{Join, IsInput}
-use Rattle.ms_machine.specs.declared.reply.Refusal.TheVariants.{Syntax, Const, Later, TooLarge, TooMany, Redefined, CrossLoop, RecursiveAggregate, Small}
+use Rattle.ms_machine.specs.declared.reply.Refusal.TheVariants.{Syntax, Const, Later, TooLarge, TooMany, Redefined, CrossLoop, RecursiveAggregate}
 use Rattle.ms_machine.specs.Machine.{State, Joins, Answers}
 use Rattle.ms_machine.specs.Replies.{Output, Reply, added, grounded, assigned, released, no_effect, solved, refused}
 use Rattle.ms_machine.specs.Scripts.{Takes}
@@ -66,8 +66,7 @@ changes old (Release atom) released new ((a, named, is), texts, names) = inl (re
   inputs = λ i has. input_from old.join i ((is.inputs i).0 has).0;
 })
 changes old (Release atom) no_effect new h = same old new h.1
-changes old (Solve asked limit assume) (solved ending count most listing) new h = same old new h.4
-changes old (Solve asked limit assume) (refused Small) new h = same old new h.1
+changes old (Solve asked limit assume) (solved ending count most listing) new (solves, most_is, texts, names, join) = inl (same_join old new names join)
 changes old c reply new h = absurd h
 
 -- the same of an item of a script
