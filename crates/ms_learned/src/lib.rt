@@ -1,0 +1,2 @@
+// What is learned stays true while the program grows, is kept, and isn't learned again: laws over every run.
+#![tactic(auto)]
