@@ -77,7 +77,7 @@ impl Open {
                 let atoms = ground_module.names.len() as u64;
                 let rules = ground_module.rules.len() as u64;
                 self.join.join(ground_module)?;
-                self.notes = self.things.extend(&self.terms, ground_module)?;
+                self.notes = self.solver.extend(&self.terms, ground_module)?;
                 Ok(Reply::Grounded { atoms, rules })
             }
             Err(fault) => {

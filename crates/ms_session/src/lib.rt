@@ -9,7 +9,6 @@ mod reply_text;
 mod session;
 mod solving;
 mod text;
-mod things;
 mod value_term;
 
 pub use ms_base::memory::OutOfMemory;

@@ -11,7 +11,6 @@ ghost use Rattle.ms_session.specs.Opened.{IsReady, IsStep, IsWhole, state_in};
 
 use crate::adding::add_text;
 use crate::reply_text::print;
-use crate::things::Things;
 use ms_atombase::AtomBase;
 use ms_base::atom_id::AtomId;
 use ms_base::memory::OutOfMemory;
@@ -23,10 +22,11 @@ use ms_lits::Notes;
 use ms_machine::reply::Reply;
 use ms_module::Join;
 use ms_parts::Parts;
+use ms_solver::Solver;
 use ms_term::Terms;
 use std::alloc::Global;
 
-/// The accepted texts, the names of terms, the atoms of the base, the join, its things, and the lines of the log that the
+/// The accepted texts, the names of terms, the atoms of the base, the join, its solver, and the lines of the log that the
 /// last command gave. A call that answers want of memory leaves anything here.
 #[derive(Drop)]
 pub(crate) struct Open {
@@ -34,7 +34,7 @@ pub(crate) struct Open {
     pub terms: Terms,
     pub base: AtomBase,
     pub join: Join,
-    pub things: Things,
+    pub solver: Solver,
     pub notes: Notes,
 }
 
@@ -49,7 +49,7 @@ impl Open {
             terms: Terms::new(alloc),
             base: AtomBase::new(alloc),
             join: Join::new(alloc),
-            things: Things::new(alloc),
+            solver: Solver::new(alloc),
             notes: Seq::new(alloc),
         }
     }
@@ -86,7 +86,11 @@ impl Open {
         ensures whole { IsWhole self.new }
         ensures rest { self.new ≡ record self.old { join = self.new.join } }
     {
-        self.join.release(a)
+        let effect = self.join.release(a);
+        if effect == Effect::Done {
+            self.solver.release(a);
+        }
+        effect
     }
 
     /// One step of the machine.

@@ -1,7 +1,7 @@
 // The texts of replies.
 ghost use Rattle.std.specs.Prelude.{◌≡◌, ◌++◌, ◌∷◌, ◌<◌, All, codes, OnOk, OnErr, length};
 ghost use Rattle.std.specs.Fmt.{decimal};
-ghost use Rattle.ms_machine.specs.Replies.{ending_line, line, refusal_line, reply_text, said_by};
+ghost use Rattle.ms_machine.specs.Replies.{ending_text, line, refusal_line, reply_text, said_by};
 ghost use Rattle.ms_machine.specs.declared.reply.Reply.TheVariants.{Solved};
 ghost use Rattle.ms_machine.specs.Replies.{grounded};
 ghost use Rattle.ms_session.specs.Kept.{IsNamed};
@@ -10,6 +10,7 @@ use ms_base::memory::OutOfMemory;
 use ms_lits::Ending;
 use ms_machine::reply::{Refusal, Reply, Shown};
 use ms_term::Terms;
+use std::alloc::Global;
 
 /// Appends the text of a reply whose names are in the table. Where there is no memory for it nothing was appended.
 pub(crate) fn print(terms: &Terms, reply: &Reply, into: &mut Vec<u8>) -> Result<(), OutOfMemory>
@@ -78,7 +79,6 @@ fn print_refusal(refusal: &Refusal, into: &mut Vec<u8>) -> Result<(), OutOfMemor
         Refusal::CrossLoop { new_head, old } => {
             print_loop(new_head.as_slice(), old.as_slice(), into)
         }
-        Refusal::Small => put(b"refused small\n", into),
     }
 }
 
@@ -106,29 +106,21 @@ fn print_loop(new_head: &[u8], old: &[u8], into: &mut Vec<u8>) -> Result<(), Out
     put(text.as_slice(), into)
 }
 
-fn print_ending(
+/// How a solve ended, by the number of its answers.
+pub(crate) fn ending_text(
+    alloc: Global,
     ending: Ending,
     count: u64,
     limit: u64,
-    into: &mut Vec<u8>,
-) -> Result<(), OutOfMemory>
-    ensures ok { OnOk result (into.new.items ≡ into.old.items ++ ending_line ending count limit) }
-    ensures err { OnErr result (into.new.items ≡ into.old.items) }
+) -> Result<Vec<u8>, OutOfMemory>
+    ensures { IfOk result (λ text. text.items ≡ ending_text ending count limit) }
 {
-    match ending {
-        Ending::Complete => print_counted("complete ", count, into),
-        Ending::StillOpen => print_counted("open ", count, into),
-        Ending::Cut => print_cut(count, limit, into),
-    }
-}
-
-fn print_cut(count: u64, limit: u64, into: &mut Vec<u8>) -> Result<(), OutOfMemory>
-    ensures ok { OnOk result (into.new.items
-        ≡ into.old.items ++ line (codes "cut " ++ decimal count ++ codes " limit=" ++ decimal limit)) }
-    ensures err { OnErr result (into.new.items ≡ into.old.items) }
-{
-    let text = format!(in *into.allocator(); "cut {count} limit={limit}\n")?;
-    put(text.as_bytes(), into)
+    let text = match ending {
+        Ending::Complete => format!(in alloc; "complete {count}")?,
+        Ending::StillOpen => format!(in alloc; "open {count}")?,
+        Ending::Cut => format!(in alloc; "cut {count} limit={limit}")?,
+    };
+    Ok(text.into_bytes())
 }
 
 /// Appends a line for each answer set, and the ending.
@@ -147,6 +139,8 @@ fn print_solved(
 {
     let mut text = Vec::new(*into.allocator());
     ms_show::print(terms, shown, &mut text)?;
-    print_ending(ending, count, limit, &mut text)?;
+    let last = ending_text(*into.allocator(), ending, count, limit)?;
+    text.extend_from_slice(last.as_slice())?;
+    text.push(b'\n')?;
     put(text.as_slice(), into)
 }

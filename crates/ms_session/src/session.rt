@@ -43,7 +43,7 @@ impl Model for Session {
 
     ghost coded = { Prim.hlevel (codes, tree_code, term.the_row.coded, value.the_row.coded) };
 
-    ghost view = { λ s. record { sealed = s.sealed; table = s.open.terms; texts = s.open.parts; base = s.open.base; join = s.open.join; things = s.open.things.things; notes = s.open.notes } };
+    ghost view = { λ s. record { sealed = s.sealed; table = s.open.terms; texts = s.open.parts; base = s.open.base; join = s.open.join; solver = s.open.solver; notes = s.open.notes } };
 
     ghost invariant = { λ s. s.sealed ≡ false → IsWhole s.open };
 }
