@@ -11,3 +11,4 @@ pub mod Few
 pub mod Assignments
 pub mod Solved
 pub mod Asking
+pub mod Values

@@ -2,12 +2,15 @@
 -- Source: that learned nogoods stay as a program grows by composable modules is after Gebser, Kaminski, Kaufmann and
 -- Schaub, "Multi-shot ASP solving with clingo" (2019), and Oikarinen and Janhunen, "Modular equivalence for normal logic
 -- programs" (2006).
-use Rattle.std.specs.Prelude.{ℕ, zero, suc, ◌≡◌, ◌⊎◌, ◌++◌, Bool, List, Option, Some}
+use Rattle.std.specs.Prelude.{ℕ, zero, suc, ◌≡◌, ◌⊎◌, ◌↔◌, ◌++◌, All, Bool, List, Option, Some}
 use Rattle.ms_lits.specs.Literals.{Nogood}
 use Rattle.ms_nogood.specs.Store.{Stored, nogood_at}
 use Rattle.ms_nogood.specs.declared.kind.Kind.TheVariants.{Base, Kept}
 use Rattle.ms_join.specs.declared.ground_module.GroundModule.{GroundModule}
-use Rattle.ms_join.specs.Modules.{Join, IsAssigned, IsJoin, IsReleased}
+use Rattle.ms_join.specs.declared.ground_rule.Input.{Input}
+use Rattle.ms_join.specs.AnswerSets.{IsAnswerSet}
+use Rattle.ms_join.specs.Modules.{Join, IsAssigned, IsJoin, IsReleased, rules_of}
+use Rattle.ms_join.specs.Possible.{IsPossible}
 use Rattle.ms_join.specs.Things.{Thing}
 use Rattle.ms_things.specs.Completion.{IsCompletionNogood}
 use Rattle.ms_things.specs.Consequences.{IsConsequence}
@@ -17,6 +20,14 @@ use Rattle.ms_solver.specs.States.{IsLasting, Joins, Knowledge, Serves}
 -- Where an input is assigned, what serves the join serves the new one as it is.
 abbrev pub AssignedIsServed : Type 0
 AssignedIsServed = (s : Knowledge) (j assigned : Join) (a : ℕ) (value : Option Bool) → Serves s j → IsAssigned j a value assigned → IsJoin assigned → Serves s assigned
+
+-- The set has the value of the input, unless that is free.
+abbrev pub HasValue : (ℕ → Bool) → Input → Type 0
+HasValue set i = (value : Bool) → i.value ≡ Some value → set i.atom ≡ value
+
+-- The answer sets under the values of the inputs are the possible sets that have these.
+abbrev pub ValuesAreAssumed : Type 0
+ValuesAreAssumed = (j : Join) (set : ℕ → Bool) → IsJoin j → IsAnswerSet (rules_of j) set ↔ (IsPossible j set × All (HasValue set) j.inputs)
 
 -- a completion nogood, of kind Base
 abbrev pub IsOfProgram : Join → List Thing → Stored → Type 0

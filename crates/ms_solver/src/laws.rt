@@ -1,6 +1,6 @@
 // Laws of what a solver keeps: each function does nothing, and its contract speaks of every join. Some call the laws that
 // they follow from.
-ghost use Rattle.ms_solver.specs.Laws.{AssignedIsServed, LearnedLasts, StoredIsConsequence, StoredIsKnown};
+ghost use Rattle.ms_solver.specs.Laws.{AssignedIsServed, LearnedLasts, StoredIsConsequence, StoredIsKnown, ValuesAreAssumed};
 
 use ms_loops::{consequences_stay, inputs_keep_consequences, nogoods_are_consequences};
 
@@ -30,3 +30,8 @@ pub fn learned_lasts()
     consequences_stay();
     inputs_keep_consequences();
 }
+
+/// The answer sets under the values of inputs are those that have these values where each input is free.
+pub fn values_are_assumed()
+    ensures { ValuesAreAssumed }
+{}
