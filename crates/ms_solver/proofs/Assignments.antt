@@ -24,9 +24,10 @@ use Rattle.ms_loops.specs.Founded.{AgreesOnAtoms, ContainsNone, IsOverBase}
 use Rattle.ms_loops.specs.Laws.{AssignmentsArePossible, CompletionAndLoops, PossibleIsOverBase}
 use Rattle.ms_lawful.specs.Problems.{HasNogood, HasNoKept, IsAdmitted, MeetsStart, Problem, holds_under, true_atoms}
 use Rattle.ms_complete.proofs.Lists.{any_none, at_some, member_of, some_at, some_once}
-use Rattle.ms_solver.specs.Numbered.{AreNumbers, atoms_of, numbers_in, places, said}
+use Rattle.ms_problem.specs.Numbered.{AreNumbers, numbers_in, said}
+use Rattle.ms_solver.specs.Numbered.{atoms_of, places}
 use Rattle.ms_solver.specs.Admitted.{AdmittedAreAsked, AskedAreFound, AtomsDecide, Asks, IsFound}
-use Rattle.ms_solver.specs.Solves.{IsAskedFor, IsListed, problem_of}
+use Rattle.ms_problem.specs.Solves.{IsAskedFor, IsListed, problem_of}
 use Rattle.ms_solver.specs.States.{IsLasting}
 use Rattle.ms_solver.proofs.Picked.{atoms_of_filter, filter_alike, has_from_set_of, place_set, places_set}
 
@@ -113,7 +114,7 @@ module _ (j : Join) (things : List Thing) (numbers : List ℕ) (ask : AtomAsk) (
       (λ s some.
       let holds : truth some.1.var ≡ some.1.truth = All-contains (λ (l : Lit). truth l.var ≡ l.truth) start some.1 (contained_from truth start meets.demanded) (member_of (IsFor things (said s)) start some) in
       sym (agrees j things numbers asks.join asks.are asks.numbered truth s.atom some.1.var some.4.0) ∙ (holds ∙ some.4.1))
-      ask.assume asks.demands.says.all
+      ask.assume asks.demands.all
 
   pub listed_by : AssignmentsArePossible → (truth : ℕ → Bool) → IsAdmitted problem truth → MeetsStart problem truth → IsListed j things numbers ask (true_atoms problem truth)
   listed_by law truth admitted meets =
@@ -168,7 +169,7 @@ module _ (j : Join) (things : List Thing) (numbers : List ℕ) (ask : AtomAsk) (
             possible = possible;
             demanded = has_from (ext (set_of set) things) start (All-weaker (λ (l : Lit). Any (λ (s : AtomLit). IsFor things (said s) l) ask.assume) (λ (l : Lit). ext (set_of set) things l.var ≡ l.truth)
                 (λ l some. truth_of some.1 l some.4 (All-contains (λ (s : AtomLit). set_of set s.atom ≡ s.truth) ask.assume some.1 is.assumed (member_of (λ (s : AtomLit). IsFor things (said s) l) ask.assume some)))
-                start asks.demands.says.each);
+                start asks.demands.each);
           };
           none_kept = none_kept_by (set_of set) is.answers lasting;
         }

@@ -10,7 +10,7 @@ use Rattle.ms_join.specs.Things.{Thing}
 use Rattle.ms_join.specs.Things.Thing.{atom}
 use Rattle.ms_complete.proofs.KeyLaws.{same_atom}
 use Rattle.ms_complete.proofs.Lists.{at_some, member_of, same_some}
-use Rattle.ms_solver.specs.Numbered.{AreNumbers}
+use Rattle.ms_problem.specs.Numbered.{AreNumbers}
 
 module _ (things : List Thing) (count : ℕ) (numbers : List ℕ) (are : AreNumbers things count numbers) where
   apart : AllPairs (λ (x y : ℕ). x ≢ y) numbers

@@ -25,7 +25,7 @@ use Rattle.ms_unfound.specs.Parts.{Known}
 use Rattle.ms_unfound.specs.Taking.{Takes}
 use Rattle.ms_unfound.proofs.WithCompletion.{taken_with_completion}
 use Rattle.ms_solver.specs.Extending.{AddsPlaces, KeepsSlots, PutsToSleep}
-use Rattle.ms_solver.specs.Numbered.{AreNumbers}
+use Rattle.ms_problem.specs.Numbered.{AreNumbers}
 use Rattle.ms_solver.specs.States.{HasSleeper, IsLasting, Joins, Knowledge, Serves, kept_of}
 use Rattle.ms_solver.proofs.Lasting.{lasting_joined}
 use Rattle.ms_solver.proofs.Stores.{exactly_still, kept_stays, order_stays, slots_from, slots_keep_kept, slots_keep_lasting}

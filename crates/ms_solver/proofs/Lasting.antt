@@ -16,7 +16,7 @@ use Rattle.ms_search.specs.Problems.{literals_at}
 use Rattle.ms_search.proofs.Begins.{awake_slot}
 use Rattle.ms_unfound.proofs.InputLoops.{assign_keeps_loops}
 use Rattle.ms_solver.specs.Laws.{AssignedIsServed, LeadsTo, LearnedLasts, Moment, StoredIsConsequence, StoredIsKnown}
-use Rattle.ms_solver.specs.Numbered.{AreNumbers}
+use Rattle.ms_problem.specs.Numbered.{AreNumbers}
 use Rattle.ms_solver.specs.States.{IsLasting, Joins, kept_of}
 
 pub lasting_joined : ConsequencesStay → (old new : Join) (m : GroundModule) (things more : List Thing) (nogood : Nogood) → IsJoin old → AreThings old things → Joins old m new

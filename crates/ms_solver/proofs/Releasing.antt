@@ -13,7 +13,7 @@ use Rattle.ms_complete.specs.Rules.{holds}
 use Rattle.ms_complete.proofs.Lists.{any_from, same_some}
 use Rattle.ms_complete.proofs.Released.{are_of_released}
 use Rattle.ms_unfound.proofs.InputLoops.{release_keeps_loops}
-use Rattle.ms_solver.specs.Numbered.{AreNumbers}
+use Rattle.ms_problem.specs.Numbered.{AreNumbers}
 use Rattle.ms_solver.specs.States.{HasSleeper, IsLasting, Knowledge, Releases, Serves, kept_of}
 use Rattle.ms_solver.proofs.Stores.{kept_stays, order_stays, woken_keeps_kept, woken_keeps_lasting}
 

@@ -12,7 +12,7 @@ use Rattle.ms_join.specs.Things.Thing.{atom}
 use Rattle.ms_complete.specs.Rules.{holds}
 use Rattle.ms_complete.proofs.Lists.{at_left, member_cases, member_none, none_is_some}
 use Rattle.ms_solver.specs.Extending.{AddsPlaces, PutsToSleep, SleepsAt}
-use Rattle.ms_solver.specs.Numbered.{AreNumbers}
+use Rattle.ms_problem.specs.Numbered.{AreNumbers}
 use Rattle.ms_solver.proofs.Lists.{push_cases}
 use Rattle.ms_solver.proofs.Stores.{sleeps_more, sleeps_none}
 

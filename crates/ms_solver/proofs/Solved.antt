@@ -49,8 +49,10 @@ use Rattle.ms_unfound.specs.Loops.{IsGiven}
 use Rattle.ms_unfound.specs.Parts.{Known}
 use Rattle.ms_unfound.proofs.Admitted.{same_keeps_loops}
 use Rattle.ms_solver.specs.Admitted.{Asks}
-use Rattle.ms_solver.specs.Numbered.{IsLitOf, IsPickedFrom, atoms_of, numbers_in, said}
-use Rattle.ms_solver.specs.Solves.{EndsWith, IsAskedFor, IsListed, IsLog, IsQuestion, Lists, Solves, problem_of}
+use Rattle.ms_problem.specs.Numbered.{numbers_in, said}
+use Rattle.ms_solver.specs.Numbered.{IsLitOf, IsPickedFrom, atoms_of}
+use Rattle.ms_problem.specs.Solves.{IsAskedFor, IsListed, problem_of}
+use Rattle.ms_solver.specs.Solves.{EndsWith, IsLog, IsQuestion, Lists, Solves}
 use Rattle.ms_solver.specs.States.{HasSleeper, IsLasting, Knowledge, Serves, kept_of}
 use Rattle.ms_solver.proofs.Assignments.{admitted_by, decided_by, found_by, has_from, listed_by, none_kept_by}
 use Rattle.ms_solver.proofs.Picked.{atoms_back, atoms_of_filter, filter_picked}
@@ -95,7 +97,7 @@ module _ (k : Knowledge) (j : Join) (serves : Serves k j) (ask : AtomAsk) (quest
   }
 
   pub asks : Asks j things k.atoms ask question.assume
-  asks = record { join = serves.join; are = serves.of.are; numbered = serves.atoms; demands = record { ordered = q.ordered; says = says_match } }
+  asks = record { join = serves.join; are = serves.of.are; numbered = serves.atoms; demands = record { ordered = q.ordered; each = says_match.each; all = says_match.all } }
 
   base_to : (n : Nogood) → IsBase k.store n → IsCompletionNogood j things n
   base_to n b = (serves.of.completion n).0 (b.key, awake_slot (slot_at k.store b.key) b.stored b.found ∙ ap Some (stored_same b.stored n b.same b.base))

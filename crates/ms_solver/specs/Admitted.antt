@@ -8,8 +8,8 @@ use Rattle.ms_join.specs.Sets.{set_of}
 use Rattle.ms_join.specs.Things.{Thing}
 use Rattle.ms_things.specs.Numbers.{AreThings, ext}
 use Rattle.ms_lawful.specs.Problems.{Problem, HasNoKept, IsAdmitted, MeetsStart, true_atoms}
-use Rattle.ms_solver.specs.Numbered.{AreNumbers}
-use Rattle.ms_solver.specs.Solves.{Demands, IsAskedFor, IsListed, problem_of}
+use Rattle.ms_problem.specs.Numbered.{AreNumbers}
+use Rattle.ms_problem.specs.Solves.{Demands, IsAskedFor, IsListed, problem_of}
 use Rattle.ms_solver.specs.States.{IsLasting}
 
 -- The things of a join, the numbers of its atoms, and the literals of what is assumed.

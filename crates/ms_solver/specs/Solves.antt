@@ -7,25 +7,17 @@ use Rattle.ms_lits.specs.declared.note.Ending.{Ending}
 use Rattle.ms_lits.specs.declared.note.Ending.TheVariants.{Complete, StillOpen, Cut}
 use Rattle.ms_lits.specs.Literals.{Nogood}
 use Rattle.ms_join.specs.declared.assumption.AtomAsk.{AtomAsk}
-use Rattle.ms_join.specs.Assumptions.{IsMeetingAnswer}
 use Rattle.ms_join.specs.Modules.{Join}
-use Rattle.ms_join.specs.Possible.{freed}
 use Rattle.ms_join.specs.Things.{Thing}
-use Rattle.ms_things.specs.Completion.{IsCompletionNogood}
-use Rattle.ms_things.specs.Loops.{IsLoopNogood}
-use Rattle.ms_things.specs.Signs.{IsFor}
-use Rattle.ms_lawful.specs.Problems.{Problem}
 use Rattle.ms_lawful.specs.Lines.{AreLines, EndsRun, answers_in, first_stage, stage_after}
 use Rattle.ms_lawful.specs.Parts.{ComesBefore, kept_after, last_of, most_kept}
 use Rattle.ms_complete.specs.Sets.{Match}
 use Rattle.ms_search.specs.declared.ask.Ask.{Ask}
 use Rattle.ms_search.specs.declared.ask.Run.{Run}
-use Rattle.ms_solver.specs.Numbered.{IsLitOf, numbers_in, said}
+use Rattle.ms_problem.specs.Numbered.{numbers_in}
+use Rattle.ms_problem.specs.Solves.{Demands, IsAskedFor, problem_of}
+use Rattle.ms_solver.specs.Numbered.{IsLitOf}
 use Rattle.ms_solver.specs.States.{Knowledge, Serves, kept_of}
-
--- The set is an answer set of the join where each input is free, and has what is assumed.
-abbrev pub IsAskedFor : Join → AtomAsk → List ℕ → Type 0
-IsAskedFor j ask set = IsMeetingAnswer j.atoms (record { rules = j.rules; inputs = freed j.inputs }) ask.assume set
 
 -- As many as were asked for, or fewer.
 abbrev pub EndsWith : ℕ → ℕ → Ending → Type 0
@@ -42,17 +34,6 @@ pub record Lists (j : Join) (ask : AtomAsk) (run : Run) : Type 0 where
   pub none : ask.impossible ≡ true → (run.answers ≡ []) × (run.ending ≡ Complete)
   pub ends : EndsWith ask.count (length run.answers) run.ending
 
--- The literals are those of what is assumed, in the order of a line.
-pub record Demands (things : List Thing) (ask : AtomAsk) (start : List Lit) : Type 0 where
-  pub ordered : AllPairs ComesBefore start
-  pub says : Match (λ s lit. IsFor things (said s) lit) ask.assume start
-
--- The numbers of the true atoms of a set that is asked for.
-pub record IsListed (j : Join) (things : List Thing) (numbers : List ℕ) (ask : AtomAsk) (answer : List ℕ) : Type 0 where
-  pub set : List ℕ
-  pub asked : IsAskedFor j ask set
-  pub same : numbers_in things numbers set ≡ answer
-
 -- What a search is asked for on behalf of a solve: as many answers with the same limit, over all things, and the literals
 -- of what is assumed, in the order of a line.
 pub record IsQuestion (things : List Thing) (numbers : List ℕ) (ask : AtomAsk) (question : Ask) : Type 0 where
@@ -62,21 +43,6 @@ pub record IsQuestion (things : List Thing) (numbers : List ℕ) (ask : AtomAsk)
   pub ordered : AllPairs ComesBefore question.assume
   pub says : Match (IsLitOf numbers) ask.assume question.assume
   pub impossible : question.impossible ≡ ask.impossible
-
--- What a solve is about: the completion and the loops of the join.
-abbrev pub problem_of : Join → List Thing → List ℕ → List Nogood → AtomAsk → List Lit → Problem
-problem_of j things numbers kept ask start = record {
-  Base = IsCompletionNogood j things;
-  Gives = IsLoopNogood j things;
-  Member = IsListed j things numbers ask;
-  things = length things;
-  atoms = numbers;
-  kept = kept;
-  impossible = ask.impossible;
-  start = start;
-  asked = ask.count;
-  limit = ask.limit;
-}
 
 -- The notes are a lawful log of the solve up to its last line, whose answers are those of the run.
 pub record IsLog (j : Join) (things : List Thing) (numbers : List ℕ) (kept : List Nogood) (ask : AtomAsk) (run : Run) : Type 0 where

@@ -15,7 +15,7 @@ use Rattle.ms_search.specs.Problems.{AreLasting, kept_nogoods}
 use Rattle.ms_search.specs.Runs.{Resting}
 use Rattle.ms_unfound.specs.Parts.{Known}
 use Rattle.ms_unfound.specs.Taking.{AreLoopsOf}
-use Rattle.ms_solver.specs.Numbered.{AreNumbers}
+use Rattle.ms_problem.specs.Numbered.{AreNumbers}
 
 -- What is kept of a join: the store of nogoods, the declared things, what is kept of loops, the number of each atom, and for
 -- each atom the key of the nogood that sleeps for it, where there is one.

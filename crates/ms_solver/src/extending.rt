@@ -8,7 +8,7 @@ ghost use Rattle.ms_complete.specs.Notes.{Tells};
 ghost use Rattle.ms_complete.specs.Rules.{holds};
 ghost use Rattle.ms_search.specs.Runs.{AreAttached, empty_trail};
 ghost use Rattle.ms_solver.specs.Extending.{AddsPlaces, KeepsNumbers, KeepsSlots, PutsToSleep};
-ghost use Rattle.ms_solver.specs.Numbered.{AreNumbers};
+ghost use Rattle.ms_problem.specs.Numbered.{AreNumbers};
 ghost use Rattle.ms_solver.specs.States.{CanExtend, Joins, Serves, kept_of};
 
 use crate::solver::{Sleepers, SolverBy};

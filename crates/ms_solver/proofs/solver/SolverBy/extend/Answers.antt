@@ -4,7 +4,7 @@ use Rattle.ms_nogood.specs.Store.{Store}
 use Rattle.ms_search.specs.Runs.{AreAttached, empty_trail}
 use Rattle.ms_unfound.proofs.WithCompletion.{completion_declares}
 use Rattle.ms_solver.specs.Extending.{KeepsSlots, PutsToSleep}
-use Rattle.ms_solver.specs.Numbered.{AreNumbers}
+use Rattle.ms_problem.specs.Numbered.{AreNumbers}
 use Rattle.ms_solver.specs.States.{CanExtend, Knowledge, Serves, State, kept_of}
 use Rattle.ms_solver.proofs.Joining.{joined_serves, named_all}
 use Rattle.ms_solver.proofs.Lists.{on_ok}
