@@ -28,11 +28,11 @@ use Rattle.ms_possible.proofs.FreeSets.{answer_is_possible}
 use Rattle.ms_possible.proofs.Joining.{cut_is_possible, join_extends}
 
 -- The rules speak of the atoms of the base.
-record IsClosed (s : State) : Type 0 where
-  orderly : IsOrderly s
-  below : All (IsBelow s.join.atoms) s.join.rules
+pub record IsClosed (s : State) : Type 0 where
+  pub orderly : IsOrderly s
+  pub below : All (IsBelow s.join.atoms) s.join.rules
 
-closed_start : IsClosed start
+pub closed_start : IsClosed start
 closed_start = record { orderly = orderly_start; below = λ k d within. absurd (omega arith) }
 
 -- the numbers of atoms are below the length of their list
@@ -68,7 +68,7 @@ closed_grown old new grows is now =
     (λ k d within. below_more old.join.atoms new.join.atoms (get_or old.join.rules k d) (omega (arith, atoms)) (is.below k d within))
     (subst (λ n. All (IsBelow n) grows.joins.ground_module.rules) counted (fresh_below old new grows)))
 
-closed_after : (old new : State) → Stays old new ⊎ Grows old new → IsClosed old → IsClosed new
+pub closed_after : (old new : State) → Stays old new ⊎ Grows old new → IsClosed old → IsClosed new
 closed_after old new (inl stays) is = record { orderly = orderly_after old new (inl stays) is.orderly; below = closed_still old new stays is }
 closed_after old new (inr grows) is =
     let now = orderly_after old new (inr grows) is.orderly in
@@ -81,7 +81,7 @@ closed_run old new (item ∷ items) (output ∷ outputs) is (mid, takes, run) = 
 closed_run old new [] (output ∷ outputs) is run = absurd run
 closed_run old new (item ∷ items) [] is run = absurd run
 
-closed_reached : (s : State) → IsReached s → IsClosed s
+pub closed_reached : (s : State) → IsReached s → IsClosed s
 closed_reached s reached = closed_run start s reached.items reached.outputs closed_start reached.run
 
 -- ---- what is possible

@@ -1,0 +1,53 @@
+-- Nogoods that last, and what refutes the demands of a complete solve.
+-- Source: that learned nogoods are checked by unit closure is after Goldberg and Novikov, "Verification of proofs of
+-- unsatisfiability for CNF formulas" (2003); the nogoods of answers are this project's.
+use Rattle.std.specs.Prelude.{ℕ, ◌≡◌, ◌<◌, ◌⊎◌, ◌∷◌, Bool, true, IsTrue, List, Some, All, Contains, filter, length, map, slice_get}
+use Rattle.std.specs.List.{flat_map}
+use Rattle.ms_tree.specs.Tree.{Tree}
+use Rattle.ms_call.specs.declared.command.Assumption.{Assumption}
+use Rattle.ms_join.specs.Modules.{Join}
+use Rattle.ms_join.specs.Things.{Thing}
+use Rattle.ms_lits.specs.declared.lit.Lit.{Lit}
+use Rattle.ms_lits.specs.declared.note.Note.{Note}
+use Rattle.ms_lits.specs.declared.note.Note.TheVariants.{Answer, Start}
+use Rattle.ms_lits.specs.Literals.{Nogood, IsRefuted}
+use Rattle.ms_things.specs.Completion.{IsCompletionNogood}
+use Rattle.ms_things.specs.Consequences.{IsConsequence}
+use Rattle.ms_lawful.specs.Lines.{nogoods_in}
+use Rattle.ms_lawful.specs.Parts.{last_of, most_kept}
+use Rattle.ms_lawful.specs.Problems.{literal_of}
+use Rattle.ms_problem.specs.Numbered.{AreNumbers}
+use Rattle.ms_machine.specs.Machine.{State, IsDemanded, IsImpossible}
+use Rattle.ms_machine.specs.Replies.{Output}
+
+-- The nogood is over these things, and no set that is possible contains it, whatever the inputs are.
+pub record IsLasting (j : Join) (things : List Thing) (nogood : Nogood) : Type 0 where
+  pub within : All (λ lit. lit.var < length things) nogood
+  pub consequence : IsConsequence j things nogood
+
+-- the lines that outputs give, one output after the other
+abbrev pub log_of : List Output → List Note
+log_of outputs = flat_map (λ o. o.log) outputs
+
+-- the true atoms of an assignment, by their numbers
+abbrev pub answer_by : (ℕ → Bool) → List ℕ → List ℕ
+answer_by truth numbers = filter truth numbers
+
+-- What a reader of the log has at hand: the completion of the join, what a solve begins with, the nogoods of the log's
+-- lines, and of each answer in the log all atoms with the signs that they have there.
+pub data IsAtHand (s : State) (numbers : List ℕ) (log : List Note) (nogood : Nogood) : Type 0 where
+  of_completion : IsCompletionNogood s.join s.things nogood → IsAtHand s numbers log nogood
+  kept_before : Contains (last_of most_kept s.kept) nogood → IsAtHand s numbers log nogood
+  logged : Contains (nogoods_in log) nogood → IsAtHand s numbers log nogood
+  of_answer : (truth : ℕ → Bool) → Contains log (Answer (answer_by truth numbers)) → nogood ≡ map (literal_of truth) numbers → IsAtHand s numbers log nogood
+
+-- The log begins with the literals that are demanded, which are refuted by unit closure with what is at hand; or an atom
+-- outside the base is assumed true.
+pub record IsRefutedByLog (s : State) (assume : List Assumption) (log : List Note) : Type 0 where
+  pub numbers : List ℕ
+  pub numbered : AreNumbers s.things s.join.atoms numbers
+  pub impossible : Bool
+  pub start : List Lit
+  pub rest : List Note
+  pub begins : log ≡ Start impossible start ∷ rest
+  pub ended : (IsTrue impossible × IsImpossible s assume) ⊎ IsRefuted (IsAtHand s numbers log) start
