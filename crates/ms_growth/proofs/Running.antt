@@ -101,7 +101,7 @@ cut_grown old new set grows is =
     cut_is_possible old.join new.join m.rules set grows.joins.joined.rules
     (join_extends old.join new.join m is.below (joined_heads old grows.calls grows.atoms grows.count new grows.joins) grows.joins.composable grows.joins.joined)
 
-cut_after : (old new : State) (set : ℕ → Bool) → Stays old new ⊎ Grows old new → IsClosed old → IsPossible new.join set → IsPossible old.join (cut old.join.atoms set)
+pub cut_after : (old new : State) (set : ℕ → Bool) → Stays old new ⊎ Grows old new → IsClosed old → IsPossible new.join set → IsPossible old.join (cut old.join.atoms set)
 cut_after old new set (inl stays) = cut_still old new set stays
 cut_after old new set (inr grows) = cut_grown old new set grows
 

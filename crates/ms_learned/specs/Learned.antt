@@ -36,10 +36,10 @@ answer_by truth numbers = filter truth numbers
 -- What a reader of the log has at hand: the completion of the join, what a solve begins with, the nogoods of the log's
 -- lines, and of each answer in the log all atoms with the signs that they have there.
 pub data IsAtHand (s : State) (numbers : List ℕ) (log : List Note) (nogood : Nogood) : Type 0 where
-  of_completion : IsCompletionNogood s.join s.things nogood → IsAtHand s numbers log nogood
-  kept_before : Contains (last_of most_kept s.kept) nogood → IsAtHand s numbers log nogood
-  logged : Contains (nogoods_in log) nogood → IsAtHand s numbers log nogood
-  of_answer : (truth : ℕ → Bool) → Contains log (Answer (answer_by truth numbers)) → nogood ≡ map (literal_of truth) numbers → IsAtHand s numbers log nogood
+  of_program : IsCompletionNogood s.join s.things nogood → IsAtHand s numbers log nogood
+  of_kept : Contains (last_of most_kept s.kept) nogood → IsAtHand s numbers log nogood
+  of_line : Contains (nogoods_in log) nogood → IsAtHand s numbers log nogood
+  of_listed : (truth : ℕ → Bool) → Contains log (Answer (answer_by truth numbers)) → nogood ≡ map (literal_of truth) numbers → IsAtHand s numbers log nogood
 
 -- The log begins with the literals that are demanded, which are refuted by unit closure with what is at hand; or an atom
 -- outside the base is assumed true.

@@ -1,0 +1,4 @@
+mod Cut
+mod Told
+mod Solved
+mod Sound
