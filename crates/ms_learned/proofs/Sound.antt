@@ -1,5 +1,5 @@
 -- Along a run the declared things are those of the join, and what is kept lasts.
-use Rattle.std.proofs.Common.{◌≡◌, ◌∙◌, ◌⊎◌, ℕ, ◌<◌, ◌-◌, Bool, List, [], ◌∷◌, ◌++◌, Some, None, length, length-append, append_assoc, append-nil, refl, sym, ap, subst, inl, inr, arith}
+use Rattle.std.proofs.Common.{◌≡◌, ◌∙◌, ◌⊎◌, ℕ, ◌<◌, ◌-◌, Bool, List, [], ◌∷◌, ◌++◌, Some, None, get_or, length, length-append, append_assoc, append-nil, refl, sym, ap, subst, inl, inr, arith}
 use Rattle.std.specs.List.{All, AllZip, Contains}
 use Rattle.std.proofs.lemmas.List.Elements.{All-append, All-contains, All-drop, All-weaker, Contains-append_right, filter_map-append}
 use Rattle.ms_tree.specs.Tree.{Tree}
@@ -66,8 +66,8 @@ lasting_after old new more nogood change closed are longer l = record {
   consequence = λ set possible contained.
       l.consequence (cut old.join.atoms set) (cut_after old new set change closed possible)
       (λ k d within.
-      ext_cut old.join set closed.below old.things more are _ (l.within k d within)
-      ∙ (ap (λ (things : List Thing). ext set things _) (sym longer) ∙ contained k d within));
+      let number : ℕ = (get_or nogood k d).var in
+      ext_cut old.join set closed.below old.things more are number (l.within k d within) ∙ (ap (λ (things : List Thing). ext set things number) (sym longer) ∙ contained k d within));
 }
 
 all_lasting : (old new : State) (more : List Thing) → Stays old new ⊎ Grows old new → IsClosed old → IsSound old → new.things ≡ old.things ++ more
@@ -193,23 +193,23 @@ kept_last law old new items outputs nogood reached run among =
 -- ---- what is kept
 
 -- a declaration keeps nothing
-tells_no_kept : (names : List Tree) (t : Thing) (note : Note) → TellsThing names t note → kept_by note ≡ None
-tells_no_kept names (atom a) note (tree, at, is) = ap kept_by is
-tells_no_kept names (body b) note (line, of, is) = ap kept_by is
-tells_no_kept names (tuple t) note tells = absurd tells
-tells_no_kept names (aggregate g) note tells = absurd tells
+tells_no_kept : (names : List Tree) (all : List Thing) (t : Thing) (note : Note) → TellsThing names all t note → kept_by note ≡ None
+tells_no_kept names all (atom a) note (tree, at, is) = ap kept_by is
+tells_no_kept names all (body b) note (line, of, is) = ap kept_by is
+tells_no_kept names all (tuple t) note tells = absurd tells
+tells_no_kept names all (aggregate g) note tells = absurd tells
 
-declarations_keep_nothing : (names : List Tree) (things : List Thing) (log : List Note) → AllZip (TellsThing names) things log → kept_in log ≡ []
-declarations_keep_nothing names [] [] zip = refl
-declarations_keep_nothing names (t ∷ things) (note ∷ log) zip =
-    let none : kept_by note ≡ None = tells_no_kept names t note zip.0 in
-    let rest : kept_in log ≡ [] = declarations_keep_nothing names things log zip.1 in
+declarations_keep_nothing : (names : List Tree) (all things : List Thing) (log : List Note) → AllZip (TellsThing names all) things log → kept_in log ≡ []
+declarations_keep_nothing names all [] [] zip = refl
+declarations_keep_nothing names all (t ∷ things) (note ∷ log) zip =
+    let none : kept_by note ≡ None = tells_no_kept names all t note zip.0 in
+    let rest : kept_in log ≡ [] = declarations_keep_nothing names all things log zip.1 in
     filter_map-append kept_by (note ∷ []) log ∙ (ap (λ ns. ns ++ kept_in log) (one_kept note none) ∙ rest)
   where
     one_kept : (note : Note) → kept_by note ≡ None → kept_in (note ∷ []) ≡ []
     one_kept note none = cc
-declarations_keep_nothing names [] (note ∷ log) zip = absurd zip
-declarations_keep_nothing names (t ∷ things) [] zip = absurd zip
+declarations_keep_nothing names all [] (note ∷ log) zip = absurd zip
+declarations_keep_nothing names all (t ∷ things) [] zip = absurd zip
 
 unchanged : (old new : State) (log : List Note) → new.kept ≡ old.kept → kept_in log ≡ [] → last_of most_kept new.kept ≡ last_of most_kept (old.kept ++ kept_in log)
 unchanged old new log kept nothing = ap (last_of most_kept) (kept ∙ (sym (append-nil old.kept) ∙ ap (λ (ns : List Nogood). old.kept ++ ns) (sym nothing)))
@@ -218,7 +218,7 @@ last_takes : (old : State) (item : Item) (output : Output) (new : State) → Tak
 last_takes old item output new takes = elim (takes_told old item output new takes) [
   | inl quiet ↦ unchanged old new output.log quiet.kept (ap kept_in quiet.nothing)
   | inr told ↦ elim told [
-    | inl declares ↦ unchanged old new output.log declares.kept (declarations_keep_nothing new.names declares.logs.more output.log declares.logs.tells)
+    | inl declares ↦ unchanged old new output.log declares.kept (declarations_keep_nothing new.names new.things declares.logs.more output.log declares.logs.tells)
     | inr solves ↦ ap (last_of most_kept) solves.logs.kept ∙ last_of-append most_kept old.kept (kept_in output.log)
   ]
 ]
@@ -251,7 +251,7 @@ others_keep_all old new c output other step = others_keep old c output.reply out
 kept_by_log : (old new : State) (log : List Note) (nogood : Nogood) → Tells old new log → Contains (kept_in log) nogood → Contains new.kept nogood
 kept_by_log old new log nogood (inl quiet) among = absurd (Contains-none nogood (subst (λ (ns : List Note). Contains (kept_in ns) nogood) quiet.nothing among))
 kept_by_log old new log nogood (inr (inl declares)) among =
-    absurd (Contains-none nogood (subst (λ (ns : List Nogood). Contains ns nogood) (declarations_keep_nothing new.names declares.logs.more log declares.logs.tells) among))
+    absurd (Contains-none nogood (subst (λ (ns : List Nogood). Contains ns nogood) (declarations_keep_nothing new.names new.things declares.logs.more log declares.logs.tells) among))
 kept_by_log old new log nogood (inr (inr solves)) among =
     subst (λ (ns : List Nogood). Contains ns nogood) (sym solves.logs.kept) (Contains-append_right (last_of most_kept old.kept) (kept_in log) nogood among)
 
@@ -266,19 +266,19 @@ logged_last law old mid new c output items outputs nogood reached step run among
 pub not_learned_again : (old new : State) (asked limit : ℕ) (assume : List Assumption) (output : Output) (nogood : Nogood) → Step old (Solve asked limit assume) output new
     → Contains (last_of most_kept old.kept) nogood → All (λ line. (line ≡ nogood → ⊥) × ¬ IsContained line nogood) (nogoods_in output.log)
 not_learned_again old new asked limit assume output nogood step among =
-    let as = solve_told old new asked limit assume output.reply output.log step.answers step.logs in
-    apart old new asked limit assume as.ending as.count as.listing output.log as.logs nogood among
+    let solve = solve_told old new asked limit assume output.reply output.log step.answers step.logs in
+    apart old new asked limit assume solve.ending solve.count solve.listing output.log solve.logs nogood among
 
 pub temporary_rests : NogoodsAreConsequences → (old new : State) (asked limit : ℕ) (assume : List Assumption) (output : Output) (before rest : List Note) (nogood : Nogood) (numbers : List ℕ) (set : ℕ → Bool)
     → IsReached old → Step old (Solve asked limit assume) output new → output.log ≡ before ++ Temporary nogood ∷ rest
     → AreNumbers old.things old.join.atoms numbers → IsPossible old.join set → IsContainedIn (ext set old.things) nogood
     → Contains before (Answer (answer_by (ext set old.things) numbers))
 temporary_rests law old new asked limit assume output before rest nogood numbers set reached step cut numbered possible contained =
-    let as = solve_told old new asked limit assume output.reply output.log step.answers step.logs in
+    let solve = solve_told old new asked limit assume output.reply output.log step.answers step.logs in
     let is = sound_reached law old reached in
-    let same : as.logs.numbers ≡ numbers = same_numbers old.things old.join.atoms as.logs.numbers numbers is.are.once as.logs.numbered numbered in
+    let same : solve.logs.numbers ≡ numbers = same_numbers old.things old.join.atoms solve.logs.numbers numbers is.are.once solve.logs.numbered numbered in
     subst (λ (ns : List ℕ). Contains before (Answer (answer_by (ext set old.things) ns))) same
-    (answered old new asked limit assume as.ending as.count as.listing output.log as.logs law is.kept set possible before rest nogood cut contained)
+    (answered old new asked limit assume solve.ending solve.count solve.listing output.log solve.logs law is.kept set possible before rest nogood cut contained)
 
 pub complete_is_refuted : (old new : State) (asked limit count most : ℕ) (assume : List Assumption) (listing : List (List Tree)) (output : Output)
     → Step old (Solve asked limit assume) output new → output.reply ≡ solved Complete count most listing → IsRefutedByLog old assume output.log
