@@ -1,4 +1,5 @@
 mod Cut
 mod Told
+mod Listed
 mod Solved
 mod Sound

@@ -1,10 +1,10 @@
 -- What the part of a solve says of the sets that are possible.
-use Rattle.std.proofs.Common.{◌≡◌, ◌≢◌, ◌∙◌, ◌⊎◌, ℕ, ◌<◌, ◌-◌, Bool, true, false, not, if◌then◌else◌, List, [], ◌∷◌, ◌++◌, Some, length, get_or, append-nil, refl, sym, ap, subst, inl, inr, arith}
+use Rattle.std.proofs.Common.{◌≡◌, ◌≢◌, ◌∙◌, ◌⊎◌, ℕ, ◌+◌, ◌<◌, ◌≤◌, ◌-◌, ◌^◌, Bool, true, false, not, if◌then◌else◌, List, [], ◌∷◌, ◌++◌, Some, length, get_or, append-nil, refl, sym, ap, subst, inl, inr, arith}
 use Rattle.std.specs.Prelude.{IsTrue, slice_get}
 use Rattle.std.specs.List.{All, AllPairs, Contains}
 use Rattle.std.proofs.lemmas.Bool.{cases_order, false≢true}
 use Rattle.std.proofs.lemmas.List.{ext_get_or}
-use Rattle.std.proofs.lemmas.List.Elements.{All-contains, All-contains_itself, All-drop, All-weaker, Contains-append_left, Contains-get_or, filter_map-append}
+use Rattle.std.proofs.lemmas.List.Elements.{All-contains, All-contains_itself, All-drop, All-weaker, Contains-append_left, Contains-get_or, filter-append, filter_map-append}
 use Rattle.std.proofs.lemmas.Option.{get_or_from_slice_get, slice_get-get_or, slice_get_within}
 use Rattle.ms_tree.specs.Tree.{Tree}
 use Rattle.ms_call.specs.declared.command.Assumption.{Assumption}
@@ -13,17 +13,20 @@ use Rattle.ms_join.specs.Things.{Thing}
 use Rattle.ms_join.specs.Things.Thing.{atom}
 use Rattle.ms_lits.specs.declared.lit.Lit.{Lit}
 use Rattle.ms_lits.specs.declared.note.Ending.{Ending}
-use Rattle.ms_lits.specs.declared.note.Ending.TheVariants.{Complete}
+use Rattle.ms_lits.specs.declared.note.Ending.TheVariants.{Complete, Cut}
 use Rattle.ms_lits.specs.declared.note.Note.{Note}
 use Rattle.ms_lits.specs.declared.note.Note.TheVariants.{Answer, Finish, Kept, Start, Temporary, Theory}
 use Rattle.ms_lits.specs.Literals.{Nogood, IsContained, IsRefuted}
+use Rattle.ms_things.specs.Completion.{IsCompletionNogood}
 use Rattle.ms_things.specs.Numbers.{ext}
 use Rattle.ms_things.specs.Signs.{IsContainedIn}
 use Rattle.ms_loops.specs.Laws.{NogoodsAreConsequences}
-use Rattle.ms_lawful.specs.Lines.{AreLines, InFullStore, IsInOrder, first_stage, kept_now, nogood_of, nogoods_in, of_answer, of_completion, of_theory, kept_before, standing, stored, temporary}
+use Rattle.ms_lawful.specs.Lines.{AreLines, InFullStore, IsInOrder, answer_of, answers_in, first_stage, is_learned, kept_now, learned_in, nogood_of, nogoods_in, of_answer, of_completion, of_theory, kept_before, standing, stored, temporary}
 use Rattle.ms_lawful.specs.Parts.{kept_in, last_of, most_kept}
 use Rattle.ms_lawful.specs.Problems.{HasNogood, HasNoKept, IsAdmitted, Problem, holds_under}
 use Rattle.ms_lawful.proofs.Apart.{lines_apart}
+use Rattle.ms_lawful.proofs.Counts.{cut_spent, learned_count, lines_few, spent_within}
+use Rattle.ms_lawful.proofs.Listed.{temporary_answered}
 use Rattle.ms_lawful.proofs.Lists.{Contains-cons, filter_map-Contains}
 use Rattle.ms_lawful.proofs.Parts.{kept_from, kept_in_part}
 use Rattle.ms_lawful.proofs.Soundness.{store_sound, temporary_rests}
@@ -174,11 +177,44 @@ module _ (old new : State) (asked limit : ℕ) (assume : List Assumption) (endin
 
     -- an earlier answer has the true atoms of a set that contains what is temporary
     pub answered : (before rest : List Note) (nogood : Nogood) → log ≡ before ++ Temporary nogood ∷ rest → IsContainedIn truth nogood → Contains before (Answer (answer_by truth is.numbers))
-    answered before rest nogood cut contained =
-        let (front, first, behind) = behind_first is.ask.impossible is.start (lines ++ Finish _ ∷ []) before rest nogood (sym is.part.whole ∙ cut) in
+    answered before rest nogood split contained =
+        let (front, first, behind) = behind_first is.ask.impossible is.start (lines ++ Finish _ ∷ []) before rest nogood (sym is.part.whole ∙ split) in
         let (later, whole) = before_last _ lines front rest nogood behind in
         let has = temporary_rests problem front later truth nogood (subst (AreLines problem first_stage) whole is.part.lawful) admitted none_kept (has_from truth nogood contained) in
         subst (λ (notes : List Note). Contains notes (Answer (answer_by truth is.numbers))) (sym first) (Contains-cons _ (Answer (answer_by truth is.numbers)) front has)
+
+  pub follows_answer : (before rest : List Note) (nogood : Nogood) → log ≡ before ++ Temporary nogood ∷ rest → answers_in before ≢ []
+  follows_answer before rest nogood split none =
+      let (front, first, behind) = behind_first is.ask.impossible is.start (lines ++ Finish _ ∷ []) before rest nogood (sym is.part.whole ∙ split) in
+      let (later, whole) = before_last _ lines front rest nogood behind in
+      temporary_answered problem front later nogood (subst (AreLines problem first_stage) whole is.part.lawful) (ap answers_in (sym first) ∙ none)
+
+  -- no line contains an earlier one
+  pub none_earlier : AllPairs (λ nogood later. ¬ IsContained later nogood) (nogoods_in log)
+      × All (λ line. (nogood : Nogood) → IsCompletionNogood old.join old.things nogood → ¬ IsContained line nogood) (nogoods_in log)
+  none_earlier =
+      let all = lines_apart problem lines is.part.lawful in (
+        subst (AllPairs (λ nogood later. ¬ IsContained later nogood)) (sym nogood_lines) all.apart,
+        subst (All (λ line. (nogood : Nogood) → IsCompletionNogood old.join old.things nogood → ¬ IsContained line nogood)) (sym nogood_lines)
+            (λ k d h nogood base. all.outside k d h nogood (inl base)),
+      )
+
+  answer_lines : answers_in log ≡ answers_in lines
+  answer_lines = ap answers_in is.part.whole ∙ (filter_map-append answer_of lines (Finish _ ∷ []) ∙ append-nil (answers_in lines))
+
+  learned_lines : learned_in log ≡ learned_in lines
+  learned_lines = ap learned_in is.part.whole ∙ (filter-append is_learned lines (Finish _ ∷ []) ∙ append-nil (learned_in lines))
+
+  -- a cut has its limit
+  pub cut_has : ending ≡ Cut → (length (learned_in log) ≡ limit + length (answers_in log)) × (limit ≤ 3 ^ length old.things)
+  cut_has cut =
+      let counted = learned_count problem lines is.part.lawful is.part.ends.nothing_owed in
+      let spent = cut_spent problem lines ending cut is.part.ends in
+      let within = spent_within lines in
+      let few = lines_few problem lines is.part.lawful in (
+        omega (arith, ap length learned_lines, ap length answer_lines, counted, spent, is.is_ask.limit_is),
+        omega (arith, within, few, spent, is.is_ask.limit_is),
+      )
 
   -- what a solve keeps lasts
   pub kept_lasting : NogoodsAreConsequences → All (IsLasting old.join old.things) old.kept → All (IsLasting old.join old.things) (kept_in log)

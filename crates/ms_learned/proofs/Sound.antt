@@ -1,7 +1,8 @@
 -- Along a run the declared things are those of the join, and what is kept lasts.
-use Rattle.std.proofs.Common.{◌≡◌, ◌∙◌, ◌⊎◌, ℕ, ◌<◌, ◌-◌, Bool, List, [], ◌∷◌, ◌++◌, Some, None, get_or, length, length-append, append_assoc, append-nil, refl, sym, ap, subst, inl, inr, arith}
-use Rattle.std.specs.List.{All, AllZip, Contains}
-use Rattle.std.proofs.lemmas.List.Elements.{All-append, All-contains, All-drop, All-weaker, Contains-append_right, filter_map-append}
+use Rattle.std.proofs.Common.{◌≡◌, ◌∙◌, ◌⊎◌, ℕ, ◌+◌, ◌<◌, ◌≤◌, ◌-◌, ◌^◌, Bool, List, [], ◌∷◌, ◌++◌, Some, None, get_or, length, length-append, append_assoc, append-nil, refl, sym, ap, subst, inl, inr, arith}
+use Rattle.std.specs.List.{All, AllPairs, AllZip, Contains}
+use Rattle.std.proofs.lemmas.List.{length-map}
+use Rattle.std.proofs.lemmas.List.Elements.{All-append, All-contains, All-drop, All-weaker, Contains-append_left, Contains-append_right, filter_map-append}
 use Rattle.ms_tree.specs.Tree.{Tree}
 use Rattle.ms_call.specs.Items.{Item, command}
 use Rattle.ms_call.specs.declared.command.Assumption.{Assumption}
@@ -12,27 +13,32 @@ use Rattle.ms_join.specs.Possible.{IsPossible, cut}
 use Rattle.ms_join.specs.Things.{Thing, IsThing}
 use Rattle.ms_join.specs.Things.Thing.{atom, body, tuple, aggregate}
 use Rattle.ms_lits.specs.declared.lit.Lit.{Lit}
-use Rattle.ms_lits.specs.declared.note.Ending.TheVariants.{Complete}
+use Rattle.ms_lits.specs.declared.note.Ending.TheVariants.{Complete, Cut}
 use Rattle.ms_lits.specs.declared.note.Note.{Note}
 use Rattle.ms_lits.specs.declared.note.Note.TheVariants.{Answer, Kept, Temporary}
 use Rattle.ms_lits.specs.Literals.{Nogood, IsContained}
+use Rattle.ms_things.specs.Completion.{IsCompletionNogood}
 use Rattle.ms_things.specs.Numbers.{AreThings, ext}
 use Rattle.ms_things.specs.Signs.{IsContainedIn}
 use Rattle.ms_loops.specs.Laws.{NogoodsAreConsequences}
-use Rattle.ms_lawful.specs.Lines.{nogoods_in}
+use Rattle.ms_lawful.specs.Lines.{answers_in, learned_in, nogoods_in}
 use Rattle.ms_lawful.specs.Parts.{kept_by, kept_in, last_of, most_kept}
+use Rattle.ms_lawful.proofs.Listed.{listed_from}
 use Rattle.ms_lawful.proofs.Lists.{Contains-none, filter_map-Contains, last_of-append}
-use Rattle.ms_problem.specs.Numbered.{AreNumbers}
+use Rattle.ms_problem.specs.Numbered.{AreNumbers, numbers_in}
+use Rattle.ms_solving.specs.Showing.{shows_atom}
 use Rattle.ms_machine.specs.Logging.{Tells as TellsThing}
 use Rattle.ms_machine.specs.Machine.{State, Answers, Logs, Step, start}
 use Rattle.ms_machine.specs.Replies.{Output, Reply, grounded, solved}
 use Rattle.ms_machine.specs.Scripts.{Run, Takes}
 use Rattle.ms_released.specs.Released.{IsReached}
+use Rattle.ms_released.proofs.Reaching.{orderly_reached}
 use Rattle.ms_released.proofs.Steps.{Grows, Stays, takes_changes}
 use Rattle.ms_growth.proofs.Running.{IsClosed, closed_after, closed_reached, closed_start, cut_after}
-use Rattle.ms_learned.specs.Learned.{IsLasting, IsRefutedByLog, answer_by, log_of}
+use Rattle.ms_learned.specs.Learned.{IsAnswered, IsLasting, IsRefutedByLog, answer_by, log_of}
 use Rattle.ms_learned.proofs.Cut.{ext_cut}
-use Rattle.ms_learned.proofs.Solved.{answered, apart, kept_lasting, refuted_by_log, same_numbers}
+use Rattle.ms_learned.proofs.Solved.{answered, apart, cut_has, follows_answer, kept_lasting, none_earlier, refuted_by_log, same_numbers}
+use Rattle.ms_learned.proofs.Listed.{listed, long_listing}
 use Rattle.ms_learned.proofs.Told.{Declaring, IsQuiet, Solving, Tells, solve_told, takes_told, told}
 
 -- The declared things are those of the join, and what is kept lasts.
@@ -271,14 +277,53 @@ not_learned_again old new asked limit assume output nogood step among =
 
 pub temporary_rests : NogoodsAreConsequences → (old new : State) (asked limit : ℕ) (assume : List Assumption) (output : Output) (before rest : List Note) (nogood : Nogood) (numbers : List ℕ) (set : ℕ → Bool)
     → IsReached old → Step old (Solve asked limit assume) output new → output.log ≡ before ++ Temporary nogood ∷ rest
-    → AreNumbers old.things old.join.atoms numbers → IsPossible old.join set → IsContainedIn (ext set old.things) nogood
-    → Contains before (Answer (answer_by (ext set old.things) numbers))
-temporary_rests law old new asked limit assume output before rest nogood numbers set reached step cut numbered possible contained =
+    → AreNumbers old.things old.join.atoms numbers → IsPossible old.join set → IsContainedIn (ext set old.things) nogood → IsAnswered old numbers before output.reply set
+temporary_rests law old new asked limit assume output before rest nogood numbers set reached step split numbered possible contained =
     let solve = solve_told old new asked limit assume output.reply output.log step.answers step.logs in
     let is = sound_reached law old reached in
     let same : solve.logs.numbers ≡ numbers = same_numbers old.things old.join.atoms solve.logs.numbers numbers is.are.once solve.logs.numbered numbered in
-    subst (λ (ns : List ℕ). Contains before (Answer (answer_by (ext set old.things) ns))) same
-    (answered old new asked limit assume solve.ending solve.count solve.listing output.log solve.logs law is.kept set possible before rest nogood cut contained)
+    let own : Contains before (Answer (answer_by (ext set old.things) solve.logs.numbers)) =
+    answered old new asked limit assume solve.ending solve.count solve.listing output.log solve.logs law is.kept set possible before rest nogood split contained in
+    let there : Contains output.log (Answer (answer_by (ext set old.things) solve.logs.numbers)) =
+    subst (λ (ns : List Note). Contains ns (Answer (answer_by (ext set old.things) solve.logs.numbers))) (sym split) (Contains-append_left before (Temporary nogood ∷ rest) (Answer (answer_by (ext set old.things) solve.logs.numbers)) own) in
+    let among = subst (λ (sets : List (List ℕ)). Contains sets (answer_by (ext set old.things) solve.logs.numbers)) solve.logs.answers (listed_from output.log (answer_by (ext set old.things) solve.logs.numbers) there) in
+    let (shown, in_listing, atoms) = listed old.things old.join.atoms solve.logs.numbers solve.logs.numbered old.names (orderly_reached old reached).counted (shows_atom old.texts) solve.logs.sets solve.listing set solve.logs.listed among in
+    record {
+      line = subst (λ (ns : List ℕ). Contains before (Answer (answer_by (ext set old.things) ns))) same own;
+      shown = shown;
+      listed = subst (λ (lists : List (List Tree)). Contains lists shown) (sym solve.lists) in_listing;
+      atoms = atoms;
+    }
+
+pub temporary_follows : (old new : State) (asked limit : ℕ) (assume : List Assumption) (output : Output) (before rest : List Note) (nogood : Nogood)
+    → Step old (Solve asked limit assume) output new → output.log ≡ before ++ Temporary nogood ∷ rest → answers_in before ≡ [] → ⊥
+temporary_follows old new asked limit assume output before rest nogood step split =
+    let solve = solve_told old new asked limit assume output.reply output.log step.answers step.logs in
+    follows_answer old new asked limit assume solve.ending solve.count solve.listing output.log solve.logs before rest nogood split
+
+pub contain_no_earlier : (old new : State) (asked limit : ℕ) (assume : List Assumption) (output : Output) → Step old (Solve asked limit assume) output new
+    → AllPairs (λ nogood later. ¬ IsContained later nogood) (nogoods_in output.log)
+    × All (λ line. (nogood : Nogood) → IsCompletionNogood old.join old.things nogood → ¬ IsContained line nogood) (nogoods_in output.log)
+contain_no_earlier old new asked limit assume output step =
+    let solve = solve_told old new asked limit assume output.reply output.log step.answers step.logs in
+    none_earlier old new asked limit assume solve.ending solve.count solve.listing output.log solve.logs
+
+cut_counted : (old new : State) (asked limit count most : ℕ) (assume : List Assumption) (listing : List (List Tree)) (log : List Note)
+    → Answers old (Solve asked limit assume) (solved Cut count most listing) new → Logs old (Solve asked limit assume) (solved Cut count most listing) log new
+    → (length (learned_in log) ≡ limit + count) × (limit ≤ 3 ^ length old.things)
+cut_counted old new asked limit count most assume listing log answers logs =
+    let cut = cut_has old new asked limit assume Cut count listing log logs refl in
+    let sets : length (answers_in log) ≡ length logs.sets = ap length logs.answers ∙ length-map logs.sets (numbers_in old.things logs.numbers) in
+    let here : length listing ≡ length logs.sets = long_listing (shows_atom old.texts) old.names logs.sets listing logs.listed in
+    let there : length listing ≡ length answers.0.sets = long_listing (shows_atom old.texts) old.names answers.0.sets listing answers.0.listed in
+    (omega (arith, cut.0, sets, here, there, answers.0.counted), cut.1)
+
+pub cut_is_counted : (old new : State) (asked limit count most : ℕ) (assume : List Assumption) (listing : List (List Tree)) (output : Output)
+    → Step old (Solve asked limit assume) output new → output.reply ≡ solved Cut count most listing → (length (learned_in output.log) ≡ limit + count) × (limit ≤ 3 ^ length old.things)
+cut_is_counted old new asked limit count most assume listing output step is =
+    cut_counted old new asked limit count most assume listing output.log
+    (subst (λ (reply : Reply). Answers old (Solve asked limit assume) reply new) is step.answers)
+    (subst (λ (reply : Reply). Logs old (Solve asked limit assume) reply output.log new) is step.logs)
 
 pub complete_is_refuted : (old new : State) (asked limit count most : ℕ) (assume : List Assumption) (listing : List (List Tree)) (output : Output)
     → Step old (Solve asked limit assume) output new → output.reply ≡ solved Complete count most listing → IsRefutedByLog old assume output.log

@@ -1,6 +1,6 @@
 -- What a step does to what the log has told: a grounding that is joined declares things, a solve learns, and all else
 -- leaves both as they are.
-use Rattle.std.proofs.Common.{◌≡◌, ◌⊎◌, ℕ, List, [], inl, inr, ap}
+use Rattle.std.proofs.Common.{◌≡◌, ◌⊎◌, ℕ, List, [], refl, inl, inr, ap}
 use Rattle.ms_tree.specs.Tree.{Tree}
 use Rattle.ms_call.specs.Items.{Item, command, bad_line}
 use Rattle.ms_call.specs.declared.command.Assumption.{Assumption}
@@ -12,7 +12,7 @@ use Rattle.ms_lits.specs.declared.note.Note.{Note}
 use Rattle.ms_machine.specs.declared.reply.Refusal.TheVariants.{Syntax, Const, Later, TooLarge, TooMany, Redefined, CrossLoop, RecursiveAggregate}
 use Rattle.ms_machine.specs.Logging.{LogsThings}
 use Rattle.ms_machine.specs.Machine.{State, Answers, Logs, LogsSolve}
-use Rattle.ms_machine.specs.Replies.{Output, Reply, added, assigned, grounded, no_effect, refused, released, solved}
+use Rattle.ms_machine.specs.Replies.{Output, Reply, added, assigned, grounded, listing_of, no_effect, refused, released, solved}
 use Rattle.ms_machine.specs.Scripts.{Takes}
 use Rattle.ms_released.proofs.Steps.{Stays, same_join, stays_assigned, stays_released}
 
@@ -81,13 +81,14 @@ takes_told old bad_line output new (is, stays) = inl (record {
 })
 
 -- a solve tells of a solve, with what it was asked
-pub record SolvingAs (old new : State) (asked limit : ℕ) (assume : List Assumption) (log : List Note) : Type 0 where
+pub record SolvingAs (old new : State) (asked limit : ℕ) (assume : List Assumption) (reply : Reply) (log : List Note) : Type 0 where
   pub ending : Ending
   pub count : ℕ
   pub listing : List (List Tree)
+  pub lists : listing_of reply ≡ listing
   pub logs : LogsSolve old asked limit assume ending count listing log new
 
 pub solve_told : (old new : State) (asked limit : ℕ) (assume : List Assumption) (reply : Reply) (log : List Note) → Answers old (Solve asked limit assume) reply new → Logs old (Solve asked limit assume) reply log new
-    → SolvingAs old new asked limit assume log
-solve_told old new asked limit assume (solved ending count most listing) log h logs = record { ending = ending; count = count; listing = listing; logs = logs }
+    → SolvingAs old new asked limit assume reply log
+solve_told old new asked limit assume (solved ending count most listing) log h logs = record { ending = ending; count = count; listing = listing; lists = refl; logs = logs }
 solve_told old new asked limit assume reply log h logs = absurd h

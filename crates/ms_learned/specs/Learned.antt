@@ -1,7 +1,7 @@
 -- Nogoods that last, and what refutes the demands of a complete solve.
 -- Source: that learned nogoods are checked by unit closure is after Goldberg and Novikov, "Verification of proofs of
 -- unsatisfiability for CNF formulas" (2003); the nogoods of answers are this project's.
-use Rattle.std.specs.Prelude.{ℕ, ◌≡◌, ◌<◌, ◌⊎◌, ◌∷◌, Bool, true, IsTrue, List, Some, All, Contains, filter, length, map, slice_get}
+use Rattle.std.specs.Prelude.{ℕ, ◌≡◌, ◌<◌, ◌↔◌, ◌⊎◌, ◌∷◌, Bool, true, IsTrue, List, Some, All, Contains, filter, length, map, slice_get}
 use Rattle.std.specs.List.{flat_map}
 use Rattle.ms_tree.specs.Tree.{Tree}
 use Rattle.ms_call.specs.declared.command.Assumption.{Assumption}
@@ -17,8 +17,10 @@ use Rattle.ms_lawful.specs.Lines.{nogoods_in}
 use Rattle.ms_lawful.specs.Parts.{last_of, most_kept}
 use Rattle.ms_lawful.specs.Problems.{literal_of}
 use Rattle.ms_problem.specs.Numbered.{AreNumbers}
-use Rattle.ms_machine.specs.Machine.{State, IsDemanded, IsImpossible}
-use Rattle.ms_machine.specs.Replies.{Output}
+use Rattle.ms_machine.specs.Machine.{State, IsImpossible}
+use Rattle.ms_machine.specs.Replies.{Output, Reply, listing_of}
+use Rattle.ms_solving.specs.Showing.{shows_atom}
+use Rattle.ms_things.specs.Numbers.{ext}
 
 -- The nogood is over these things, and no set that is possible contains it, whatever the inputs are.
 pub record IsLasting (j : Join) (things : List Thing) (nogood : Nogood) : Type 0 where
@@ -32,6 +34,18 @@ log_of outputs = flat_map (λ o. o.log) outputs
 -- the true atoms of an assignment, by their numbers
 abbrev pub answer_by : (ℕ → Bool) → List ℕ → List ℕ
 answer_by truth numbers = filter truth numbers
+
+-- The terms are those of the atoms in the set that are shown.
+abbrev pub ListsAtoms : (Tree → Bool) → List Tree → (ℕ → Bool) → List Tree → Type 0
+ListsAtoms shows names set shown = (t : Tree) → Contains shown t ↔ (IsTrue (shows t) × ((a : ℕ) × (slice_get names a ≡ Some t) × IsTrue (set a)))
+
+-- The set is one of those that were answered: these lines have its atoms as an answer, and the reply lists those of its atoms
+-- that are shown.
+pub record IsAnswered (s : State) (numbers : List ℕ) (before : List Note) (reply : Reply) (set : ℕ → Bool) : Type 0 where
+  pub line : Contains before (Answer (answer_by (ext set s.things) numbers))
+  pub shown : List Tree
+  pub listed : Contains (listing_of reply) shown
+  pub atoms : ListsAtoms (shows_atom s.texts) s.names set shown
 
 -- What a reader of the log has at hand: the completion of the join, what a solve begins with, the nogoods of the log's
 -- lines, and of each answer in the log all atoms with the signs that they have there.

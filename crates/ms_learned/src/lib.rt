@@ -2,7 +2,7 @@
 // Each is the contract of a function that does nothing, but that some call the law that they follow from.
 #![tactic(auto)]
 
-ghost use Rattle.ms_learned.specs.Laws.{CompleteIsRefuted, DeclaredAreThings, KeptAreConsequences, KeptAreTheLast, KeptIsNotLearnedAgain, KeptLast, LoggedLast, OthersKeepAll, TemporaryRestsOnAnswers, ThingsKeepTheirNumbers};
+ghost use Rattle.ms_learned.specs.Laws.{CompleteIsRefuted, CutIsCounted, DeclaredAreThings, KeptAreConsequences, KeptAreTheLast, KeptIsNotLearnedAgain, KeptLast, LinesContainNoEarlier, LoggedLast, OthersKeepAll, TemporaryFollowsAnswers, TemporaryRestsOnAnswers, ThingsKeepTheirNumbers};
 
 use ms_loops::nogoods_are_consequences;
 
@@ -54,12 +54,27 @@ pub fn kept_is_not_learned_again()
     ensures { KeptIsNotLearnedAgain }
 {}
 
-/// A possible set that contains a temporary nogood is an answer that the log has before it.
+/// A possible set that contains a temporary nogood is an answer that the log has before it, and the reply lists it.
 pub fn temporary_rests_on_answers()
     ensures { TemporaryRestsOnAnswers }
 {
     nogoods_are_consequences();
 }
+
+/// A temporary nogood comes only after an answer, so a solve without answers keeps all that it learns.
+pub fn temporary_follows_answers()
+    ensures { TemporaryFollowsAnswers }
+{}
+
+/// No line of a solve contains an earlier one, or a completion nogood.
+pub fn lines_contain_no_earlier()
+    ensures { LinesContainNoEarlier }
+{}
+
+/// A cut has exactly its limit and its answers of learned nogoods, and no great limit cuts.
+pub fn cut_is_counted()
+    ensures { CutIsCounted }
+{}
 
 /// After a complete reply what was demanded is refuted by the log, by unit closure alone.
 pub fn complete_is_refuted()
