@@ -1,5 +1,5 @@
 -- An answer in the log is one that the reply lists, and there are as many.
-use Rattle.std.proofs.Common.{◌≡◌, ◌∙◌, ◌⊎◌, ℕ, zero, suc, ◌<◌, Bool, true, false, nat_eq, List, [], ◌∷◌, Some, length, map, get_or, refl, sym, ap, subst, inl, inr, arith}
+use Rattle.std.proofs.Common.{◌≡◌, ◌∙◌, ℕ, ◌<◌, Bool, true, nat_eq, List, [], ◌∷◌, Some, length, map, get_or, refl, sym, ap, subst, inl, inr, arith}
 use Rattle.std.specs.Prelude.{IsTrue, slice_get}
 use Rattle.std.specs.List.{AllZip, Any, Contains, filter}
 use Rattle.std.proofs.lemmas.Bool.{cases_Bool, eqb-true, false_from_ne_true, false≢true}
@@ -16,7 +16,7 @@ use Rattle.ms_join.specs.Things.Thing.{atom}
 use Rattle.ms_things.specs.Numbers.{ext, known_truth}
 use Rattle.ms_lawful.proofs.Lists.{Contains-cons, Contains-cons_cases, Contains-here, Contains-none}
 use Rattle.ms_problem.specs.Numbered.{AreNumbers, numbers_in}
-use Rattle.ms_solving.specs.Listing.{HasAtom, IsListing, IsShownList}
+use Rattle.ms_solving.specs.Listing.{IsListing, IsShownList}
 use Rattle.ms_released.proofs.Seen.{in_set}
 use Rattle.ms_learned.specs.Learned.{ListsAtoms, answer_by}
 
@@ -65,15 +65,15 @@ module _ (things : List Thing) (count : ℕ) (numbers : List ℕ) (are : AreNumb
     pub lists_atoms : (shows : Tree → Bool) (shown : List Tree) → IsShownList shows names list shown → ListsAtoms shows names set shown
     lists_atoms shows shown is t = (
       (λ among.
-        let both = (is.members t).0 among in
-        let (k, a, within, at, name) = both.1 in
-        let low : a < count = subst (λ (n : ℕ). a < n) named (slice_get_within names a t name) in
-        (both.0, (a, name, sym (agrees a low) ∙ in_set list a (k, within, at)))),
+          let both = (is.members t).0 among in
+          let (k, a, within, at, name) = both.1 in
+          let low : a < count = subst (λ (n : ℕ). a < n) named (slice_get_within names a t name) in
+          (both.0, (a, name, sym (agrees a low) ∙ in_set list a (k, within, at)))),
       (λ both.
-        let (a, name, holds) = both.1 in
-        let low : a < count = subst (λ (n : ℕ). a < n) named (slice_get_within names a t name) in
-        let has = from_set_of list a (agrees a low ∙ holds) in
-        (is.members t).1 (both.0, (has.0, a, has.1, has.2, name))),
+          let (a, name, holds) = both.1 in
+          let low : a < count = subst (λ (n : ℕ). a < n) named (slice_get_within names a t name) in
+          let has = from_set_of list a (agrees a low ∙ holds) in
+          (is.members t).1 (both.0, (has.0, a, has.1, has.2, name))),
     )
 
   -- what is among the answers is listed

@@ -1,5 +1,5 @@
 -- Along a run the declared things are those of the join, and what is kept lasts.
-use Rattle.std.proofs.Common.{◌≡◌, ◌∙◌, ◌⊎◌, ℕ, ◌+◌, ◌<◌, ◌≤◌, ◌-◌, ◌^◌, Bool, List, [], ◌∷◌, ◌++◌, Some, None, get_or, length, length-append, append_assoc, append-nil, refl, sym, ap, subst, inl, inr, arith}
+use Rattle.std.proofs.Common.{◌≡◌, ◌∙◌, ◌⊎◌, ℕ, ◌+◌, ◌<◌, ◌≤◌, ◌-◌, ◌^◌, Bool, List, [], ◌∷◌, ◌++◌, None, get_or, length, length-append, append_assoc, append-nil, refl, sym, ap, subst, inl, inr, arith}
 use Rattle.std.specs.List.{All, AllPairs, AllZip, Contains}
 use Rattle.std.proofs.lemmas.List.{length-map}
 use Rattle.std.proofs.lemmas.List.Elements.{All-append, All-contains, All-drop, All-weaker, Contains-append_left, Contains-append_right, filter_map-append}

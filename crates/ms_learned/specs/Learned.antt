@@ -1,7 +1,7 @@
 -- Nogoods that last, and what refutes the demands of a complete solve.
 -- Source: that learned nogoods are checked by unit closure is after Goldberg and Novikov, "Verification of proofs of
 -- unsatisfiability for CNF formulas" (2003); the nogoods of answers are this project's.
-use Rattle.std.specs.Prelude.{ℕ, ◌≡◌, ◌<◌, ◌↔◌, ◌⊎◌, ◌∷◌, Bool, true, IsTrue, List, Some, All, Contains, filter, length, map, slice_get}
+use Rattle.std.specs.Prelude.{ℕ, ◌≡◌, ◌<◌, ◌↔◌, ◌⊎◌, ◌∷◌, Bool, IsTrue, List, Some, All, Contains, filter, length, map, slice_get}
 use Rattle.std.specs.List.{flat_map}
 use Rattle.ms_tree.specs.Tree.{Tree}
 use Rattle.ms_call.specs.declared.command.Assumption.{Assumption}
