@@ -1,4 +1,3 @@
-mod Brought
 mod Telling
 mod Keeping
 mod Finding
