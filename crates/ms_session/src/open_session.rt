@@ -96,10 +96,12 @@ impl Open {
         // The join says that it is one still.
         let _ = self.join.rules();
         match effect {
-            Effect::Done => self.solver.release(a),
-            Effect::NoEffect => {}
+            Effect::Done => {
+                self.solver.release(a);
+                Effect::Done
+            }
+            Effect::NoEffect => Effect::NoEffect,
         }
-        effect
     }
 
     /// One step of the machine.

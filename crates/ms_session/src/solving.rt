@@ -3,7 +3,7 @@ ghost use Rattle.std.specs.Prelude.{◌≡◌, ◌≤◌, ◌<◌, ◌↔◌, tr
 ghost use Rattle.ms_call.specs.declared.command.Command.TheVariants.{Solve};
 ghost use Rattle.ms_machine.specs.Machine.{IsAskOf};
 ghost use Rattle.ms_join.specs.declared.assumption.AtomLit.{AtomLit};
-ghost use Rattle.ms_session.specs.Assuming.{AddsAssumed, AreExactly, IsImpossibleFor, IsValue};
+ghost use Rattle.ms_session.specs.Assuming.{AddsAssumed, AreExactly, IsImpossibleFor, IsKnown, IsValue};
 ghost use Rattle.ms_session.specs.Opened.{IsReady, IsStep, names_of, state_in};
 
 use crate::open_session::Open;
@@ -61,7 +61,8 @@ impl Open {
         assume: &[Assumption],
     ) -> Result<AtomAsk, OutOfMemory>
         requires { All (λ t. t < length self.now.terms) self.now.base }
-        ensures { IfOk result (IsAskOf (state_in self.now) count limit assume.now) }
+        ensures asks { IfOk result (IsAskOf (state_in self.now) count limit assume.now) }
+        ensures known { IfOk result (λ _. All (IsKnown (names_of self.now)) assume.now) }
     {
         let mut lits = values(alloc, self.join.rules().inputs.as_slice())?;
         let impossible = self.add_assumed(alloc, assume, &mut lits)?;
@@ -85,6 +86,7 @@ impl Open {
         requires { All (λ t. t < length self.now.terms) self.now.base }
         ensures adds { IfOk result (λ _. AddsAssumed (names_of self.now) assume.now lits.old.items lits.new.items) }
         ensures impossible { IfOk result (λ impossible. (impossible ≡ true) ↔ IsImpossibleFor (names_of self.now) assume.now) }
+        ensures known { IfOk result (λ _. All (IsKnown (names_of self.now)) assume.now) }
     {
         let mut impossible = false;
         for given in assume {
