@@ -10,3 +10,4 @@ pub mod InputLoops
 pub mod Admitted
 pub mod WithCompletion
 pub mod WatchLaws
+pub mod WaitLaws

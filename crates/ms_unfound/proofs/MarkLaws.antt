@@ -1,16 +1,17 @@
 -- A mark of what a support asks for stays within each set that no support asks for its head.
-use Rattle.std.proofs.Common.{◌≡◌, ◌+◌, ◌<◌, ◌≤◌, ℕ, Bool, true, false, not, cond, IsTrue, List, [], ◌∷◌, All, length, get_or, set, take, replicate, zero, suc, ◌&&◌, refl, sym, subst, ◌∙◌, ap, ⊎_elim, arith}
-use Rattle.std.specs.Prelude.{MatchBool}
+use Rattle.std.proofs.Common.{◌≡◌, ◌<◌, ℕ, Bool, true, false, not, cond, IsTrue, List, [], ◌∷◌, All, length, get_or, set, replicate, zero, suc, ◌&&◌, refl, sym, subst, ◌∙◌, ap, ⊎_elim, arith}
+use Rattle.std.specs.Prelude.{Some, slice_get}
 use Rattle.std.specs.List.{list_all}
 use Rattle.std.proofs.lemmas.Bool.{and_parts, and_from, cases_eq, false≢true, true_from_ne_false, not_from_false}
-use Rattle.std.proofs.lemmas.List.{get_or-set_other, take_all}
-use Rattle.std.proofs.lemmas.List.Elements.{All-head, All-more, All-nil, All-tail}
+use Rattle.std.proofs.lemmas.List.{get_or-set_other}
+use Rattle.std.proofs.lemmas.List.Elements.{All-contains, All-head, All-tail}
 use Rattle.std.proofs.lemmas.List.Sums.{sum_by-set}
 use Rattle.ms_lits.specs.declared.trail.Entry.{Entry}
 use Rattle.ms_lits.specs.Assignment.{value_in}
+use Rattle.ms_complete.proofs.Lists.{some_at}
 use Rattle.ms_join.specs.Sets.{has_all}
 use Rattle.ms_unfound.specs.declared.part.Support.{Support}
-use Rattle.ms_unfound.specs.Marks.{IsMarking, IsStill, asks, flag_at, may_hold, unmarked_count}
+use Rattle.ms_unfound.specs.Marks.{IsMarking, asks, flag_at, may_hold, unmarked_count}
 
 -- a set that has each element that another has
 pub all_more : (f g : ℕ → Bool) (xs : List ℕ) → All (λ a. IsTrue (f a) → IsTrue (g a)) xs → IsTrue (list_all f xs) → IsTrue (list_all g xs)
@@ -55,64 +56,15 @@ unmarked_count-mark flags a in_range lacks =
     let weight : Bool → ℕ = λ x. cond (not x) 1 0 in
     omega (arith, sum_by-set weight flags a true false in_range, ap weight lacks)
 
--- something was marked, or none of the supports so far asks
-abbrev pub HasPassed : Bool → List Entry → List Support → List Bool → List Bool → Type 0
-HasPassed true entries passed old now = unmarked_count now < unmarked_count old
-HasPassed false entries passed old now = IsStill entries passed (flag_at now)
-
--- after the first i supports
-pub record IsPassing (entries : List Entry) (supports : List Support) (i : ℕ) (old now : List Bool) (any : Bool) : Type 0 where
-  pub marking : IsMarking entries supports (flag_at now)
-  pub shrinks : unmarked_count now ≤ unmarked_count old
-  pub passed : HasPassed any entries (take i supports) old now
-
-keep_passed : (any : Bool) (entries : List Entry) (supports : List Support) (i : ℕ) (s : Support) (old now : List Bool) → i < length supports → s ≡ get_or supports i s → asks entries (flag_at now) s ≡ false → HasPassed any entries (take i supports) old now → HasPassed any entries (take (i + 1) supports) old now
-keep_passed true entries supports i s old now less read still passed = passed
-keep_passed false entries supports i s old now less read still passed =
-    let P : Support → Type 0 = λ t. asks entries (flag_at now) t ≡ false in
-    All-more P supports i s less passed (subst P read still)
-
-pub passing_start : (entries : List Entry) (supports : List Support) (now : List Bool) → IsMarking entries supports (flag_at now) → IsPassing entries supports 0 now now false
-passing_start entries supports now marking = record { marking = marking; shrinks = omega arith; passed = All-nil (λ t. asks entries (flag_at now) t ≡ false) }
-
-pub passing_keep : (entries : List Entry) (supports : List Support) (i : ℕ) (old now new : List Bool) (any next : Bool) (s : Support) → IsPassing entries supports i old now any → i < length supports → s ≡ get_or supports i s → asks entries (flag_at now) s ≡ false → new ≡ now → next ≡ any → IsPassing entries supports (i + 1) old new next
-passing_keep entries supports i old now new any next s passing less read still same_flags same_any =
-    let here : IsPassing entries supports (i + 1) old now any = record {
-      marking = passing.marking;
-      shrinks = passing.shrinks;
-      passed = keep_passed any entries supports i s old now less read still passing.passed;
-    } in
-    rw (same_flags, same_any) here
-
-pub passing_mark : (entries : List Entry) (supports : List Support) (i : ℕ) (old now new : List Bool) (any next : Bool) (s : Support) → IsPassing entries supports i old now any → i < length supports → s ≡ get_or supports i s → All (λ (t : Support). t.head < length now) supports → asks entries (flag_at now) s ≡ true → new ≡ set now s.head true → next ≡ true → IsPassing entries supports (i + 1) old new next
-passing_mark entries supports i old now new any next s passing less read heads asked marks is_any =
-    let in_range : s.head < length now = subst (λ (t : Support). t.head < length now) (sym read) (heads i s less) in
-    let fewer = unmarked_count-mark now s.head in_range (asked_lacks entries (flag_at now) s asked) in
-    let here : IsPassing entries supports (i + 1) old (set now s.head true) true = record {
-      marking = λ other still.
-          let within = passing.marking other still in
-          mark_within other now s.head within (asked_within entries (flag_at now) other s within asked (subst (λ (t : Support). asks entries other t ≡ false) (sym read) (still i s less)));
-      shrinks = omega (arith, passing.shrinks, fewer);
-      passed = omega (arith, passing.shrinks, fewer);
-    } in
-    rw (marks, is_any) here
-
 -- a mark alone, whichever support asks for it
-module _ (entries : List Entry) (supports : List Support) (i : ℕ) (s : Support) (less : i < length supports) (read : s ≡ get_or supports i s) (now : List Bool) (asked : asks entries (flag_at now) s ≡ true) where
+module _ (entries : List Entry) (supports : List Support) (i : ℕ) (s : Support) (at : slice_get supports i ≡ Some s) (now : List Bool) (asked : asks entries (flag_at now) s ≡ true) where
   pub marking_more : IsMarking entries supports (flag_at now) → IsMarking entries supports (flag_at (set now s.head true))
   marking_more marking other still =
       let within = marking other still in
-      mark_within other now s.head within (asked_within entries (flag_at now) other s within asked (subst (λ (t : Support). asks entries other t ≡ false) (sym read) (still i s less)))
+      mark_within other now s.head within (asked_within entries (flag_at now) other s within asked (All-contains (λ (t : Support). asks entries other t ≡ false) supports s still (some_at supports i s at)))
 
-  pub marking_fewer : All (λ (t : Support). t.head < length now) supports → unmarked_count (set now s.head true) ≤ unmarked_count now
-  marking_fewer heads =
-      let in_range : s.head < length now = subst (λ (t : Support). t.head < length now) (sym read) (heads i s less) in
-      let fewer = unmarked_count-mark now s.head in_range (asked_lacks entries (flag_at now) s asked) in
-      omega (arith, fewer)
-
-pub passed_all : (entries : List Entry) (supports : List Support) (i : ℕ) (old now : List Bool) (any : Bool) → IsPassing entries supports i old now any → length supports ≤ i → MatchBool any (unmarked_count now < unmarked_count old) (IsStill entries supports (flag_at now))
-passed_all entries supports i old now true passing long = passing.passed
-passed_all entries supports i old now false passing long = subst (λ (ss : List Support). IsStill entries ss (flag_at now)) (take_all i supports long) passing.passed
+  pub marking_fewer : s.head < length now → unmarked_count (set now s.head true) < unmarked_count now
+  marking_fewer in_range = unmarked_count-mark now s.head in_range (asked_lacks entries (flag_at now) s asked)
 
 -- where nothing is marked yet
 unset : (n i : ℕ) → flag_at (replicate n false) i ≡ false

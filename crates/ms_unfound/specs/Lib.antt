@@ -7,3 +7,4 @@ pub mod Members
 pub mod Taking
 pub mod Watched
 pub mod Laws
+pub mod Waiting
