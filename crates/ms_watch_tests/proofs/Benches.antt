@@ -1,7 +1,7 @@
 -- A bench of which something changes.
 use Rattle.std.proofs.Common.{ℕ, ◌≡◌, ◌<◌, ◌⊎◌, inl, inr, Bool, true, false, List, [], Option, Some, None, option_map, cond, refl, sym, ◌∙◌, ap, subst}
 use Rattle.std.specs.Prelude.{◌≢◌, All, is_some}
-use Rattle.std.proofs.lemmas.Bool.{both_ways, cases_eq}
+use Rattle.std.proofs.lemmas.Bool.{both_ways, cases_Bool, cases_eq, cond-true}
 use Rattle.ms_lits.specs.declared.lit.Lit.{Lit}
 use Rattle.ms_lits.specs.Literals.{Nogood}
 use Rattle.ms_nogood.specs.declared.kind.Kind.{Kind}
@@ -9,6 +9,7 @@ use Rattle.ms_nogood.specs.declared.kind.Kind.TheVariants.{Base}
 use Rattle.ms_nogood.specs.Store.{Adds, Drops, IsAsleepAt, Store, Stored, Wakes, awake_in, nogood_at, slot_at}
 use Rattle.ms_nogood.specs.Propagation.{IsWithin}
 use Rattle.ms_nogood.specs.Watching.{HasSameLits}
+use Rattle.ms_nogood.proofs.Propagation.{awake_same}
 
 -- The nogoods of a store are within the room, asleep or not.
 abbrev pub AreWithin : Store → ℕ → Type 0
@@ -20,8 +21,7 @@ AreAttached attached store = (key : ℕ) → attached key ≡ is_some (slot_at s
 
 awake_slot : (slot : Option Stored) (s : Stored) → awake_in slot ≡ Some s → slot ≡ Some s
 awake_slot None s is = cc
-awake_slot (Some (record { lits; kind = None })) s is = absurd (cc)
-awake_slot (Some (record { lits; kind = Some kind })) s is = is
+awake_slot (Some stored) s is = ap (λ (x : Stored). Some x) (awake_same stored s is)
 
 pub within_awake : (store : Store) (room : ℕ) → AreWithin store room → IsWithin store room
 within_awake store room within = λ key s found. within key s (awake_slot (slot_at store key) s found)
@@ -33,10 +33,16 @@ awake_some (Some s) is = refl
 pub attached_awake : (attached : ℕ → Bool) (store : Store) → AreAttached attached store → (key : ℕ) → is_some (nogood_at store key) ≡ true → attached key ≡ true
 attached_awake attached store are key is = are key ∙ awake_some (slot_at store key) is
 
+kind_none : (kind : Option Kind) → is_some kind ≡ false → kind ≡ None
+kind_none None is = refl
+kind_none (Some kind) is = absurd (cc)
+
 asleep_slot : (slot : Option Stored) → is_some slot ≡ true → is_some (awake_in slot) ≡ false → option_map (λ (s : Stored). s.kind) slot ≡ Some None
 asleep_slot None is not_awake = absurd (cc)
-asleep_slot (Some (record { lits; kind = None })) is not_awake = refl
-asleep_slot (Some (record { lits; kind = Some kind })) is not_awake = absurd (cc)
+asleep_slot (Some s) is not_awake = elim (cases_Bool (is_some s.kind)) [
+  | inl awake ↦ absurd (both_ways (is_some (awake_in (Some s))) not_awake (ap is_some (cond-true (is_some s.kind) (Some s) None awake)))
+  | inr none ↦ ap (λ (k : Option Kind). Some k) (kind_none s.kind none)
+]
 
 pub asleep : (store : Store) (key : ℕ) → is_some (slot_at store key) ≡ true → is_some (nogood_at store key) ≡ false → IsAsleepAt store key
 asleep store key is not_awake = asleep_slot (slot_at store key) is not_awake
