@@ -7,7 +7,8 @@ use Rattle.ms_call.specs.declared.command.Assumption.{Assumption}
 use Rattle.ms_join.specs.declared.assumption.AtomLit.{AtomLit}
 use Rattle.ms_join.specs.declared.ground_rule.Input.{Input}
 use Rattle.ms_solving.specs.Listing.{tree_of_value}
-use Rattle.ms_complete.proofs.Lists.{any_here, any_left, any_more_cases, any_right, next_one, none_is_some, same_some, some_at}
+use Rattle.ms_machine.specs.Machine.{IsAskOf, IsDemanded, State, by_assumption, by_input}
+use Rattle.ms_complete.proofs.Lists.{all_from, any_here, any_left, any_more_cases, any_right, next_one, none_is_some, same_some, some_at}
 use Rattle.ms_session.specs.Assuming.{AddsAssumed, AreExactly, IsAssumed, IsImpossibleFor, IsKnown, IsValue}
 use Rattle.ms_session.specs.Kept.{IsAtomOf, IsNumberOf}
 
@@ -70,13 +71,24 @@ module _ (inputs : List Input) (i : ℕ) (input : Input) (within : i < length in
 Says : List Tree → AtomLit → Assumption → Type 0
 Says names lit given = (slice_get names lit.atom ≡ Some (tree_of_value given.atom)) × (lit.truth ≡ given.truth)
 
+-- the number that a look-up gave
+pub no_number : (names : List Tree) (t : Tree) (number : Option ℕ) → number ≡ None → IsNumberOf names t number → ¬ Contains names t
+no_number names t number is found = subst (λ (n : Option ℕ). IsNumberOf names t n) is found
+
+pub some_number : (names : List Tree) (t : Tree) (number : Option ℕ) (a : ℕ) → number ≡ Some a → IsNumberOf names t number → IsAtomOf names t a
+some_number names t number a is found = subst (λ (n : Option ℕ). IsNumberOf names t n) is found
+
 or_cases : (a b : Bool) → (a || b) ≡ true → (a ≡ true) ⊎ (b ≡ true)
 or_cases true b h = inl refl
 or_cases false b h = inr h
 
-or_left : (a b : Bool) → a ≡ true → (a || b) ≡ true
+pub or_left : (a b : Bool) → a ≡ true → (a || b) ≡ true
 or_left true b h = refl
 or_left false b h = cc
+
+pub or_second : (a b : Bool) → a ≡ false → (a || b) ≡ b
+or_second true b h = cc
+or_second false b h = refl
 
 or_right : (a b : Bool) → b ≡ true → (a || b) ≡ true
 or_right true b h = refl
@@ -161,3 +173,29 @@ module _ (names : List Tree) (assume : List Assumption) (i : ℕ) (given : Assum
         | inr here ↦ or_right impossible given.truth here.0
       ],
     )
+
+-- Literals that are gathered from inputs and assumptions, each once, are an ask of the machine.
+module _ (s : State) (assume : List Assumption) (inputs : List Input) (first second third whole : List AtomLit) (same_inputs : inputs ≡ s.join.inputs) (values : AreExactly (IsValue inputs) first)
+    (adds : AddsAssumed s.names assume first second) (once : (lit : AtomLit) → Contains third lit ↔ Contains second lit) (is_whole : whole ≡ third) where
+  is_demanded : (lit : AtomLit) → Contains whole lit → IsDemanded s assume lit
+  is_demanded lit has = elim ((adds lit).0 ((once lit).0 (subst (λ (xs : List AtomLit). Contains xs lit) is_whole has))) [
+    | inl valued_so ↦ by_input (subst (λ (xs : List Input). IsValue xs lit) same_inputs ((values lit).0 valued_so))
+    | inr assumed ↦ by_assumption assumed
+  ]
+
+  gathered : (lit : AtomLit) → Contains first lit ⊎ IsAssumed s.names assume lit → Contains whole lit
+  gathered lit of = subst (λ (xs : List AtomLit). Contains xs lit) (sym is_whole) ((once lit).1 ((adds lit).1 of))
+
+  has_demanded : (lit : AtomLit) → IsDemanded s assume lit → Contains whole lit
+  has_demanded lit (by_input value) = gathered lit (inl ((values lit).1 (subst (λ (xs : List Input). IsValue xs lit) (sym same_inputs) value)))
+  has_demanded lit (by_assumption assumed) = gathered lit (inr assumed)
+
+  pub is_ask : (asked limit : ℕ) (impossible : Bool) → (impossible ≡ true) ↔ IsImpossibleFor s.names assume
+      → IsAskOf s asked limit assume (record { count = asked; limit = limit; assume = whole; impossible = impossible })
+  is_ask asked limit impossible so = record {
+    count = refl;
+    limit_is = refl;
+    each = all_from (IsDemanded s assume) whole is_demanded;
+    all = has_demanded;
+    impossible = so;
+  }
