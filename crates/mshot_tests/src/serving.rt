@@ -9,22 +9,36 @@ use std::test::Fail;
 
 const ROOM: usize = 4096;
 
-/// The commands of a script with an external, each with its reply.
-const STEPS: [(&str, &str); 7] = [
+/// The commands of a script with an external, each with its reply and its lines of the log.
+const STEPS: [(&str, &str, &str); 7] = [
     (
         "@add\n#external e. a :- e. b :- not e.\n@end\n",
         "added 3\n",
+        "",
     ),
-    ("@ground base\n", "grounded atoms=3 rules=2\n"),
-    ("@solve all\n", "answer: b\ncomplete 1\n"),
-    ("@assign e true\n", "assigned\n"),
-    ("@solve all\n", "answer: a e\ncomplete 1\n"),
-    ("@assign e free\n", "assigned\n"),
-    ("@solve all\n", "answer: a e\nanswer: b\ncomplete 2\n"),
+    (
+        "@ground base\n",
+        "grounded atoms=3 rules=2\n",
+        "v a a\nv a b\nv a e\nv b 3\nv b -3\n",
+    ),
+    (
+        "@solve all\n",
+        "answer: b\ncomplete 1\n",
+        "s -3\nm 2\nt -3\ne complete 1\n",
+    ),
+    ("@assign e true\n", "assigned\n", ""),
+    (
+        "@solve all\n",
+        "answer: a e\ncomplete 1\n",
+        "s 3\nm 1 3\nt 3\ne complete 1\n",
+    ),
+    ("@assign e free\n", "assigned\n", ""),
+    (
+        "@solve all\n",
+        "answer: a e\nanswer: b\ncomplete 2\n",
+        "s\nm 1 3\nt -5\nm 2\nt\ne complete 2\n",
+    ),
 ];
-
-/// The lines of its log: the atoms in the order of the base, and the bodies of the rules.
-const DECLARED: &str = "v a a\nv a b\nv a e\nv b 3\nv b -3\n";
 
 fn words(alloc: Global, texts: &[&str]) -> Result<Vec<String>, Fail> {
     let mut list = Vec::new(alloc);
@@ -37,7 +51,7 @@ fn words(alloc: Global, texts: &[&str]) -> Result<Vec<String>, Fail> {
 /// The script.
 fn script(alloc: Global) -> Result<Vec<u8>, Fail> {
     let mut bytes = Vec::new(alloc);
-    for (command, _) in STEPS {
+    for (command, _, _) in STEPS {
         bytes.extend_from_slice(command.as_bytes())?;
     }
     Ok(bytes)
@@ -47,7 +61,7 @@ fn script(alloc: Global) -> Result<Vec<u8>, Fail> {
 fn replies(alloc: Global, count: usize) -> Result<Vec<u8>, Fail> {
     let mut text = Vec::new(alloc);
     let mut left = count;
-    for (command, reply) in STEPS {
+    for (command, reply, _) in STEPS {
         if left < command.len() {
             break;
         }
@@ -122,40 +136,42 @@ fn each_write_may_fail(rt: HostRuntime) -> Result<(), Fail> {
     let alloc = rt.alloc();
     let run = words(alloc, &["log", "run"])?;
     let mut wanted = Vec::new(alloc);
-    for (failing, (_, reply)) in STEPS.iter().enumerate() {
+    let mut told = Vec::new(alloc);
+    for (failing, (_, reply, lines)) in STEPS.iter().enumerate() {
         let mut src = MemSource::new(script(alloc)?, 16, Vec::new(alloc));
         let mut out = MemSink::new(alloc, ROOM, [failing as u64].to_vec(alloc)?)?;
         let mut log = MemSink::new(alloc, ROOM, Vec::new(alloc))?;
         let status = mshot(alloc, &run, &mut src, &mut out, &mut log);
-        let told = if failing == 0 { "" } else { DECLARED };
+        told.extend_from_slice(lines.as_bytes())?;
         assert_eq!(rt; status, Status::WriteFault, "put {failing}");
         assert_eq!(rt; out.bytes(), wanted.as_slice(), "put {failing}");
-        assert_eq!(rt; log.bytes(), told.as_bytes(), "put {failing}");
+        assert_eq!(rt; log.bytes(), told.as_slice(), "put {failing}");
         wanted.extend_from_slice(reply.as_bytes())?;
     }
     Ok(())
 }
 
-/// The one command with lines of the log has one put of them, before its reply. Where it fails the call ends there.
+/// The lines of the log that a command has are one put, before its reply. Where it fails the call ends there.
 #[test]
 fn each_write_of_the_log_may_fail(rt: HostRuntime) -> Result<(), Fail> {
     let alloc = rt.alloc();
     let run = words(alloc, &["log", "run"])?;
-    let whole = script(alloc)?;
-    let all = replies(alloc, whole.len())?;
-    for failing in 0..STEPS.len() as u64 {
-        let mut src = MemSource::new(script(alloc)?, 16, Vec::new(alloc));
-        let mut out = MemSink::new(alloc, ROOM, Vec::new(alloc))?;
-        let mut log = MemSink::new(alloc, ROOM, [failing].to_vec(alloc)?)?;
-        let status = mshot(alloc, &run, &mut src, &mut out, &mut log);
-        let (ends, replied, told) = if failing == 0 {
-            (Status::LogFault, b"added 3\n".as_slice(), "")
-        } else {
-            (Status::Done, all.as_slice(), DECLARED)
-        };
-        assert_eq!(rt; status, ends, "put {failing}");
-        assert_eq!(rt; out.bytes(), replied, "put {failing}");
-        assert_eq!(rt; log.bytes(), told.as_bytes(), "put {failing}");
+    let mut replied = Vec::new(alloc);
+    let mut told = Vec::new(alloc);
+    let mut failing = 0;
+    for (_, reply, lines) in STEPS {
+        if !lines.is_empty() {
+            let mut src = MemSource::new(script(alloc)?, 16, Vec::new(alloc));
+            let mut out = MemSink::new(alloc, ROOM, Vec::new(alloc))?;
+            let mut log = MemSink::new(alloc, ROOM, [failing].to_vec(alloc)?)?;
+            let status = mshot(alloc, &run, &mut src, &mut out, &mut log);
+            assert_eq!(rt; status, Status::LogFault, "put {failing}");
+            assert_eq!(rt; out.bytes(), replied.as_slice(), "put {failing}");
+            assert_eq!(rt; log.bytes(), told.as_slice(), "put {failing}");
+            failing += 1;
+        }
+        replied.extend_from_slice(reply.as_bytes())?;
+        told.extend_from_slice(lines.as_bytes())?;
     }
     Ok(())
 }
@@ -185,7 +201,7 @@ fn front_reply(front: &[u8]) -> &'static str {
 fn cut_at(alloc: Global, end: usize) -> Result<Cut, Fail> {
     let mut text = Vec::new(alloc);
     let mut left = end;
-    for (command, reply) in STEPS {
+    for (command, reply, _) in STEPS {
         let bytes = command.as_bytes();
         // the last line end may lack
         if left + 1 < bytes.len() {
@@ -244,7 +260,7 @@ fn what_follows_is_not_taken(rt: HostRuntime) -> Result<(), Fail> {
         }
     }
     let mut after = Vec::new(alloc);
-    for (command, _) in STEPS.iter().skip(2) {
+    for (command, _, _) in STEPS.iter().skip(2) {
         after.extend_from_slice(command.as_bytes())?;
     }
     assert_eq!(rt; left.as_slice(), after.as_slice());
@@ -260,7 +276,7 @@ fn things_are_declared_once(rt: HostRuntime) -> Result<(), Fail> {
         (
             "two rules",
             "@add\na :- not b. b :- not a.\n@end\n@ground base\n@solve all\n",
-            "v a a\nv a b\nv b -2\nv b -1\n",
+            "v a a\nv a b\nv b -2\nv b -1\ns\nm 1\nt -4\nm 2\nt\ne complete 2\n",
         ),
         (
             "a body that two rules and two modules have",
@@ -296,7 +312,7 @@ fn each_reply_is_one_piece(rt: HostRuntime) -> Result<(), Fail> {
     let status = mshot(alloc, &run, &mut src, &mut out, &mut NoSink);
     assert_eq!(rt; status, Status::Done);
     assert_eq!(rt; out.pieces.len(), STEPS.len());
-    for (piece, (_, reply)) in out.pieces.as_slice().iter().zip(STEPS.iter()) {
+    for (piece, (_, reply, _)) in out.pieces.as_slice().iter().zip(STEPS.iter()) {
         assert_eq!(rt; piece.as_slice(), reply.as_bytes());
     }
     Ok(())

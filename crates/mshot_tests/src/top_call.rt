@@ -228,7 +228,7 @@ fn more_scripts_have_their_replies(rt: HostRuntime) -> Result<(), Fail> {
             "21 atoms, grounded twice",
             b"@add\na1. a2. a3. a4. a5. a6. a7. a8. a9. a10. a11. a12. a13. a14. a15. a16. a17. a18. a19. a20. a21.\n@end\n@ground base\n@ground base\n@solve all\n",
             refused,
-            "added 21\ngrounded atoms=21 rules=21\nrefused redefined a1\nrefused small\n",
+            "added 21\ngrounded atoms=21 rules=21\nrefused redefined a1\nanswer: a1 a10 a11 a12 a13 a14 a15 a16 a17 a18 a19 a2 a20 a21 a3 a4 a5 a6 a7 a8 a9\ncomplete 1\n",
         ),
         (
             "an aggregate waits",
