@@ -1,10 +1,10 @@
 -- What a solver lists for an ask is what the machine lists.
-use Rattle.std.proofs.Common.{◌≡◌, ◌∙◌, ℕ, ◌<◌, ◌++◌, List, [], ◌∷◌, length, get_or, map, All, Contains, Bool, true, false, Option, Some, None, refl, sym, ap, subst, append-nil}
+use Rattle.std.proofs.Common.{◌≡◌, ◌∙◌, ℕ, ◌<◌, List, length, get_or, All, Contains, Bool, true, false, Option, Some, None, refl, sym, subst}
 use Rattle.std.specs.Prelude.{◌==◌, slice_get}
 use Rattle.std.proofs.lemmas.Bool.{eq-eqb, false_from_ne_true, false≢true}
 use Rattle.std.proofs.lemmas.Bool.Decides.{Decides-eqb}
 use Rattle.std.proofs.lemmas.List.Folds.{Any-from_list_any, list_any_at}
-use Rattle.std.proofs.lemmas.List.Elements.{All-nil, All-contains, All-weaker, Contains-get_or, filter_map-append}
+use Rattle.std.proofs.lemmas.List.Elements.{All-nil, All-contains, All-weaker}
 use Rattle.std.proofs.lemmas.Option.{slice_get_within}
 use Rattle.ms_tree.specs.Tree.{Tree}
 use Rattle.ms_call.specs.declared.command.Assumption.{Assumption}
@@ -22,7 +22,7 @@ use Rattle.ms_solver.specs.Laws.{HasValue, ValuesAreAssumed}
 use Rattle.ms_solver.specs.Solves.{EndsWith, Lists}
 use Rattle.ms_solving.specs.Listing.{AreAllAnswers, EndsAs, HasAtom, IsAnswer, IsListing, Meets, Solves, tree_of_value}
 use Rattle.ms_machine.specs.Machine.{IsAskOf, IsDemanded, State, by_assumption, by_input}
-use Rattle.ms_complete.proofs.Lists.{all_from, any_from, member_of, some_at}
+use Rattle.ms_complete.proofs.Lists.{all_from, any_from, some_at}
 use Rattle.ms_session.specs.Assuming.{IsKnown}
 use Rattle.ms_session.specs.Kept.{IsAtomOf, IsNumberOf}
 

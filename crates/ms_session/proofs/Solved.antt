@@ -1,29 +1,23 @@
 -- A solve is a step of the machine with its part of the log.
-use Rattle.std.proofs.Common.{◌≡◌, ◌∙◌, ℕ, ◌<◌, ◌++◌, List, [], ◌∷◌, length, map, All, Bool, refl, sym, ap, subst, append-nil}
+use Rattle.std.proofs.Common.{◌≡◌, ◌∙◌, ℕ, ◌<◌, ◌++◌, List, [], ◌∷◌, length, map, All, refl, sym, ap, append-nil}
 use Rattle.std.proofs.lemmas.List.{length-map}
 use Rattle.std.proofs.lemmas.List.Elements.{filter_map-append}
-use Rattle.ms_tree.specs.Tree.{Tree}
 use Rattle.ms_term.specs.Terms.{term_at}
 use Rattle.ms_call.specs.declared.command.Assumption.{Assumption}
 use Rattle.ms_call.specs.declared.command.Command.TheVariants.{Solve}
-use Rattle.ms_core.specs.Texts.{Texts}
 use Rattle.ms_join.specs.declared.assumption.AtomAsk.{AtomAsk}
-use Rattle.ms_join.specs.declared.assumption.AtomLit.{AtomLit}
-use Rattle.ms_join.specs.Modules.{Join, IsJoin}
 use Rattle.ms_join.specs.Sets.{IsAtomSet}
 use Rattle.ms_complete.specs.Numbering.{Numbering}
-use Rattle.ms_lits.specs.declared.lit.Lit.{Lit}
 use Rattle.ms_lits.specs.declared.note.Note.{Note}
-use Rattle.ms_lits.specs.declared.note.Note.TheVariants.{Start, Finish}
-use Rattle.ms_lits.specs.declared.note.Ending.{Ending}
+use Rattle.ms_lits.specs.declared.note.Note.TheVariants.{Finish}
 use Rattle.ms_lawful.specs.Lines.{answer_of, answers_in}
-use Rattle.ms_lawful.specs.Parts.{kept_after, kept_by, kept_in, last_of, most_kept}
+use Rattle.ms_lawful.specs.Parts.{kept_by, kept_in, last_of, most_kept}
 use Rattle.ms_search.specs.declared.ask.Run.{Run}
 use Rattle.ms_search.specs.Runs.{AreAttached, empty_trail}
 use Rattle.ms_solver.specs.Laws.{ValuesAreAssumed}
 use Rattle.ms_solver.specs.Solves.{CanSolve, Solves as SolverSolves}
 use Rattle.ms_solver.specs.States.{Serves, kept_of}
-use Rattle.ms_solving.specs.Listing.{IsListing, Solves}
+use Rattle.ms_solving.specs.Listing.{IsListing}
 use Rattle.ms_solving.specs.Showing.{shows_atom}
 use Rattle.ms_machine.specs.Machine.{IsAskOf, LogsSolve}
 use Rattle.ms_machine.specs.Replies.{ending_text}
@@ -32,8 +26,8 @@ use Rattle.ms_value.proofs.Tables.{keeps_same}
 use Rattle.ms_watch.specs.Watches.{AreInStep, is_attached, state_in as state_of_key}
 use Rattle.ms_session.specs.declared.open_session.Open.{Open}
 use Rattle.ms_session.specs.Assuming.{IsKnown}
-use Rattle.ms_session.specs.Fitting.{IsFit, IsSound, Watcher, state_at}
-use Rattle.ms_session.specs.Opened.{IsReady, IsStep, IsWhole, names_of, state_in}
+use Rattle.ms_session.specs.Fitting.{Watcher, state_at}
+use Rattle.ms_session.specs.Opened.{IsReady, IsStep, names_of, state_in}
 use Rattle.ms_session.proofs.Asked.{ask_within, over_base, solves}
 
 -- the last line has no answer and keeps nothing

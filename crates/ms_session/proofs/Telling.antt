@@ -1,5 +1,5 @@
 -- The notes of the numbered things are lines of the machine's log.
-use Rattle.std.proofs.Common.{◌≡◌, ◌∙◌, ◌++◌, ◌<◌, ℕ, List, [], ◌∷◌, All, length, map, drop, sym, ap, subst, refl}
+use Rattle.std.proofs.Common.{◌≡◌, ◌∙◌, ◌++◌, ◌<◌, ℕ, List, [], ◌∷◌, All, length, map, drop, sym, ap, subst}
 use Rattle.std.specs.List.{AllZip}
 use Rattle.std.proofs.Math.Seq.{drop-append_seam}
 use Rattle.ms_tree.specs.Tree.{Tree}
@@ -14,13 +14,13 @@ use Rattle.ms_things.specs.Numbers.{AreThings}
 use Rattle.ms_complete.specs.Numbering.{Numbering}
 use Rattle.ms_complete.specs.Notes.{Tells as TellsBy}
 use Rattle.ms_complete.proofs.Lists.{at_map}
-use Rattle.ms_machine.specs.Logging.{LogsThings, Tells}
+use Rattle.ms_machine.specs.Logging.{Tells}
 use Rattle.ms_search.specs.Runs.{AreAttached, empty_trail}
 use Rattle.ms_solver.specs.Extending.{KeepsNumbers}
 use Rattle.ms_solver.specs.States.{CanExtend, Joins, Serves, kept_of}
 use Rattle.ms_watch.specs.Watches.{AreInStep, is_attached, state_in as state_of_key}
 use Rattle.ms_session.specs.Declaring.{DeclaresNew}
-use Rattle.ms_session.specs.Fitting.{IsFit, Watcher}
+use Rattle.ms_session.specs.Fitting.{Watcher}
 use Rattle.ms_session.specs.Joining.{IsGrownOver}
 
 module _ (n : Numbering) (table : List Tree) where

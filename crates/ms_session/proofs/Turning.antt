@@ -1,17 +1,17 @@
 -- What stays sound where an input is assigned or released.
-use Rattle.std.proofs.Common.{◌≡◌, ◌∙◌, ◌≤◌, ℕ, List, Bool, Option, refl, sym, ap, subst}
+use Rattle.std.proofs.Common.{◌≡◌, ◌∙◌, ◌≤◌, ℕ, List, Bool, Option, sym, ap, subst}
 use Rattle.ms_base.specs.Limits.{most_things}
 use Rattle.ms_base.specs.declared.truth.Effect.{Effect}
 use Rattle.ms_base.specs.declared.truth.Effect.TheVariants.{Done, NoEffect as nothing}
 use Rattle.ms_tree.specs.Tree.{Tree}
 use Rattle.ms_complete.specs.Numbering.{Numbering}
-use Rattle.ms_join.specs.Modules.{Join, IsInput, IsJoin}
+use Rattle.ms_join.specs.Modules.{Join, IsJoin}
 use Rattle.ms_module.specs.Inputs.{Assigns, Releases}
 use Rattle.ms_search.specs.Runs.{AreAttached, empty_trail}
 use Rattle.ms_solver.specs.Laws.{AssignedIsServed}
 use Rattle.ms_solver.specs.States.{CanRelease, Releases as SolverReleases, Serves}
 use Rattle.ms_watch.specs.Watches.{AreInStep, is_attached, state_in as state_of_key}
-use Rattle.ms_session.specs.Fitting.{IsFit, IsSound, IsToldAlike, Watcher}
+use Rattle.ms_session.specs.Fitting.{IsSound, Watcher}
 
 module _ (table : List Tree) (base : List ℕ) (join next : Join) (solver : Watcher) (a : ℕ) (sound : IsSound table base join solver) where
   pub assigned_sound : AssignedIsServed → IsJoin next → (value : Option Bool) (effect : Effect) → Assigns join a value next effect → IsSound table base next solver

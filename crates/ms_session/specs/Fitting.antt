@@ -1,5 +1,5 @@
 -- When the solver of a session is one for its join.
-use Rattle.std.specs.Prelude.{ℕ, ◌≡◌, ◌<◌, ◌≤◌, List, All, length, map}
+use Rattle.std.specs.Prelude.{ℕ, ◌≡◌, ◌<◌, ◌≤◌, List, All, length}
 use Rattle.ms_base.specs.Limits.{most_things}
 use Rattle.ms_tree.specs.Tree.{Tree}
 use Rattle.ms_core.specs.Texts.{Texts}

@@ -1,11 +1,10 @@
-use Rattle.std.proofs.Common.{◌≡◌, ◌∙◌, ◌+◌, List, All, Bool, Option, Some, None, Contains, ap, subst, sym, take, true}
+use Rattle.std.proofs.Common.{◌≡◌, ◌∙◌, ◌+◌, List, All, Bool, ap, subst, sym, take, true}
 use Rattle.std.specs.Prelude.{◌↔◌}
 use Rattle.std.proofs.lemmas.List.{take_all}
 use Rattle.ms_call.specs.declared.command.Assumption.{Assumption}
 use Rattle.ms_join.specs.declared.assumption.AtomLit.{AtomLit}
 use Rattle.ms_solving.specs.Listing.{tree_of_value}
 use Rattle.ms_session.specs.Assuming.{AddsAssumed, IsImpossibleFor, IsKnown}
-use Rattle.ms_session.specs.Kept.{IsAtomOf, IsNumberOf}
 use Rattle.ms_session.specs.Opened.{names_of}
 use Rattle.ms_session.proofs.Gathering.{impossible_unknown, known_added, known_more, no_number, or_left, or_second, possible_known, some_number, unknown_skipped}
 use Rattle.ms_session.proofs.open_session.Open.add_assumed.Goals as goal
