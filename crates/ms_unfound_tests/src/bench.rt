@@ -28,7 +28,7 @@ impl Model for Bench {
 
     ghost view = { λ b. b.vars };
 
-    ghost invariant = { λ b. IsBench b.vars b.atoms b.search.propagation b.store };
+    ghost invariant = { λ b. IsBench b.vars b.atoms b.search b.store };
 }
 
 impl Bench {
@@ -64,9 +64,10 @@ impl Bench {
     fn add(&mut self, lits: &[Lit]) -> Result<(), OutOfMemory>
         ensures { self.new ≡ self.old }
     {
-        if in_order(lits, self.vars) {
-            self.store.add(lits, Kind::Base)?;
+        if !in_order(lits, self.vars) {
+            return Ok(());
         }
+        self.store.add(lits, Kind::Base)?;
         Ok(())
     }
 

@@ -15,6 +15,6 @@ pub invariant_of-result : goal.invariant_of-result
 invariant_of-result c =
     let same = sym c.from_vec.ensures in
     let most = c.loop-var-test.false in
-    bench_begun c.args.vars c.from_vec.result c.new.result.propagation c.new-2.result c.new-2.ensures c.new.ensures.none
+    bench_begun c.args.vars c.from_vec.result c.new.result c.new-2.result c.new-2.ensures c.new.ensures.none (c.new.ensures.in_step c.new-2.result)
     (subst (All (λ (atom : ℕ). atom < c.args.vars)) same c.loop-var.invariant.below)
     (subst (AreAtoms c.args.vars) same (λ var lt. c.loop-var.invariant.every var (omega (arith, lt, most))))
