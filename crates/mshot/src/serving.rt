@@ -2,6 +2,7 @@
 ghost use Rattle.std.specs.Prelude.{◌≡◌, ◌≢◌, ◌<◌, ◌≤◌, ◌+◌, ◌^◌, ◌||◌, ◌⊎◌, ℕ, ◌++◌, Bool, false, true, List, [], Some, None, IfOk, IfErr, OnOk, IsSome, length, vec_len};
 ghost use Rattle.ms_io.specs.Faults.{Rose};
 ghost use Rattle.ms_lines.specs.Feeding.{item_of, IsShorter, GivesSome};
+ghost use Rattle.ms_machine.specs.Machine.{start};
 ghost use Rattle.ms_session.specs.Kept.{state_of};
 ghost use Rattle.mshot.specs.Sinks.{Sinks, sinks};
 ghost use Rattle.mshot.specs.Outcome.{HasStopped, IsAfterReading, IsOfPutting, Serves};
@@ -179,16 +180,39 @@ pub fn serve<S: Source, K: Sink, L: Sink>(
     ensures log_fault { result ≡ Status.LogFault → Rose (L.faults log.old) (L.faults log.new) }
     ensures log_quiet { result ≢ Status.LogFault → L.faults log.new ≡ L.faults log.old }
 {
+    let mut lines = Lines::new(alloc);
+    let mut session = Session::new(alloc);
+    serve_pieces(alloc, src, &mut lines, &mut session, out, log)
+}
+
+/// Serves a script piece by piece, by a session before its first command.
+fn serve_pieces<S: Source, K: Sink, L: Sink>(
+    alloc: Global,
+    src: &mut S,
+    lines: &mut Lines,
+    session: &mut Session,
+    out: &mut K,
+    log: &mut L,
+) -> Status
+    requires first { lines.old ≡ record { text = None; rest = [] } }
+    requires begins { state_of session.old ≡ start }
+    ensures served { (script : List ℕ) → S.left src.old ≡ Some script → Serves result script (S.left src.new) (sinks (K.held out.old) (K.pieces out.old) (L.held log.old) (L.pieces log.old)) (sinks (K.held out.new) (K.pieces out.new) (L.held log.new) (L.pieces log.new)) }
+    ensures no_usage { result ≢ Status.Usage }
+    ensures read_fault { result ≡ Status.ReadFault → Rose (S.faults src.old) (S.faults src.new) }
+    ensures read_quiet { result ≢ Status.ReadFault → S.faults src.new ≡ S.faults src.old }
+    ensures out_fault { result ≡ Status.WriteFault → Rose (K.faults out.old) (K.faults out.new) }
+    ensures out_quiet { result ≢ Status.WriteFault → K.faults out.new ≡ K.faults out.old }
+    ensures log_fault { result ≡ Status.LogFault → Rose (L.faults log.old) (L.faults log.new) }
+    ensures log_quiet { result ≢ Status.LogFault → L.faults log.new ≡ L.faults log.old }
+{
     let Ok(mut buffer) = zeros(alloc, CHUNK) else {
         return Status::NoMemory;
     };
-    let mut lines = Lines::new(alloc);
-    let mut session = Session::new(alloc);
     let mut refused = false;
     let mut taken = 0;
     loop {
         let count = match take_piece(src, buffer.as_mut_slice(), taken) {
-            Ok(0) => return finish(alloc, &mut lines, &mut session, refused, out, log),
+            Ok(0) => return finish(alloc, lines, session, refused, out, log),
             Ok(count) => count,
             Err(status) => return status,
         };
@@ -196,7 +220,7 @@ pub fn serve<S: Source, K: Sink, L: Sink>(
             return Status::NoMemory;
         }
         taken += count;
-        match answer_all(alloc, false, &mut lines, &mut session, out, log) {
+        match answer_all(alloc, false, lines, session, out, log) {
             Ok(refusal) => refused |= refusal,
             Err(status) => return status,
         }

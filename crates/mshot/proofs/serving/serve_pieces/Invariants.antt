@@ -3,7 +3,7 @@ use Rattle.ms_lines.specs.Buffers.{HasNoLine}
 use Rattle.ms_session.specs.Kept.{state_of}
 use Rattle.mshot.specs.Sinks.{sinks}
 use Rattle.mshot.specs.Serving.{HasServed}
-use Rattle.mshot.proofs.serving.serve.Given as goal
+use Rattle.mshot.proofs.serving.serve_pieces.Given as goal
 
 -- each whole command that was taken has its reply, and no call failed
 abbrev pub invariant-loop-lines : goal.invariant-loop-lines

@@ -4,7 +4,7 @@ use Rattle.ms_lines.specs.Buffers.{HasNoLine}
 use Rattle.ms_session.specs.Kept.{state_of}
 use Rattle.mshot.proofs.Progress.{served_first}
 use Rattle.mshot.proofs.Reading.{taken_more, serves_front, serves_taken, serves_most, serves_ended, serves_nothing, on_ok, served_fed, serves_unfed, whole_buffer}
-use Rattle.mshot.proofs.serving.serve.Goals as goal
+use Rattle.mshot.proofs.serving.serve_pieces.Goals as goal
 
 pub loop-lines-init : goal.loop-lines-init
 loop-lines-init g c = record {
@@ -13,8 +13,8 @@ loop-lines-init g c = record {
   src_quiet = refl;
   out_quiet = refl;
   log_quiet = refl;
-  no_line = subst (λ l. HasNoLine l.rest) (sym c.new-lines.ensures) refl;
-  served = λ script at. (omega arith, at, served_first _ c.new-lines.result (state_of c.new-session.result) c.new-lines.ensures c.new-session.ensures.start);
+  no_line = subst (λ l. HasNoLine l.rest) (sym c.requires.first) refl;
+  served = λ script at. (omega arith, at, served_first _ c.args.lines.now (state_of c.args.session.now) c.requires.first c.requires.begins);
 }
 
 pub returns-in_default-clause-served : goal.returns-in_default-clause-served
