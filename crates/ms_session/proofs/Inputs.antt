@@ -17,6 +17,8 @@ use Rattle.ms_machine.specs.Machine.{Answers, IsInputNamed, Logs}
 use Rattle.ms_machine.specs.Replies.{assigned, no_effect, released}
 use Rattle.ms_machine.specs.declared.reply.Reply.TheVariants.{Assigned, NoEffect, Released}
 use Rattle.ms_session.specs.declared.open_session.Open.{Open}
+use Rattle.ms_complete.specs.Numbering.{Numbering}
+use Rattle.ms_session.specs.Fitting.{IsToldAlike}
 use Rattle.ms_session.specs.Kept.{IsAtomOf, IsNumberOf}
 use Rattle.ms_session.specs.Opened.{IsReady, IsStep, IsWhole, names_of, state_in}
 
@@ -49,36 +51,50 @@ module _ (old : Open) (atom : Value) (number : Option ℕ) (ready : IsReady old)
   pub unknown_released : number ≡ None → IsStep old (Release atom) old NoEffect
   unknown_released is = unchanged old (Release atom) ready.whole (none_named old (tree_of_value atom) number is found, refl) (ready.silent, refl, refl)
 
-  module _ (new : Open) (a : ℕ) (is : number ≡ Some a) (still : IsWhole new) (rest : new ≡ record old { join = new.join }) where
+  module _ (new : Open) (a : ℕ) (is : number ≡ Some a) (still : IsWhole new) where
     here : IsAtomOf (names_of old) (tree_of_value atom) a
     here = some_number old (tree_of_value atom) number a is found
 
-    pub is_assigned : (truth : Truth) → Assigns old.join a (value_of truth) new.join Done → IsStep old (Assign atom truth) new Assigned
-    is_assigned truth h = record {
-      answers = subst (λ (o : Open). Answers (state_in old) (Assign atom truth) assigned (state_in o)) (sym rest)
-          ((a, record { named = here.there; input = h.0 }, h.1), refl, refl);
-      logs = subst (λ (o : Open). Logs (state_in old) (Assign atom truth) assigned o.notes (state_in o)) (sym rest) (ready.silent, refl, refl);
-      whole = still;
-      named = tt;
-      keeps = subst (λ (o : Open). Keeps old.terms o.terms) (sym rest) (keeps_same old.terms);
-    }
+    module _ (rest : new ≡ record old { join = new.join }) where
+      pub is_assigned : (truth : Truth) → Assigns old.join a (value_of truth) new.join Done → IsStep old (Assign atom truth) new Assigned
+      is_assigned truth h = record {
+        answers = subst (λ (o : Open). Answers (state_in old) (Assign atom truth) assigned (state_in o)) (sym rest)
+            ((a, record { named = here.there; input = h.0 }, h.1), refl, refl);
+        logs = subst (λ (o : Open). Logs (state_in old) (Assign atom truth) assigned o.notes (state_in o)) (sym rest) (ready.silent, refl, refl);
+        whole = still;
+        named = tt;
+        keeps = subst (λ (o : Open). Keeps old.terms o.terms) (sym rest) (keeps_same old.terms);
+      }
 
-    pub not_assigned : (truth : Truth) → Assigns old.join a (value_of truth) new.join nothing → IsStep old (Assign atom truth) new NoEffect
-    not_assigned truth h =
-        subst (λ (o : Open). IsStep old (Assign atom truth) o NoEffect) (sym (same_open old new rest h.1))
-        (unchanged old (Assign atom truth) ready.whole (no_input_named old (tree_of_value atom) a here h.0, refl) (ready.silent, refl, refl))
+      pub not_assigned : (truth : Truth) → Assigns old.join a (value_of truth) new.join nothing → IsStep old (Assign atom truth) new NoEffect
+      not_assigned truth h =
+          subst (λ (o : Open). IsStep old (Assign atom truth) o NoEffect) (sym (same_open old new rest h.1))
+          (unchanged old (Assign atom truth) ready.whole (no_input_named old (tree_of_value atom) a here h.0, refl) (ready.silent, refl, refl))
 
-    pub is_released : Releases old.join a new.join Done → IsStep old (Release atom) new Released
-    is_released h = record {
-      answers = subst (λ (o : Open). Answers (state_in old) (Release atom) released (state_in o)) (sym rest)
-          ((a, record { named = here.there; input = h.0 }, h.1), refl, refl);
-      logs = subst (λ (o : Open). Logs (state_in old) (Release atom) released o.notes (state_in o)) (sym rest) (ready.silent, refl, refl);
-      whole = still;
-      named = tt;
-      keeps = subst (λ (o : Open). Keeps old.terms o.terms) (sym rest) (keeps_same old.terms);
-    }
+    module _ (told : IsToldAlike old.solver new.solver) (rest : new ≡ record old { join = new.join; solver = new.solver }) where
+      things_stay : new.solver.knows.numbering.things ≡ old.solver.knows.numbering.things
+      things_stay = ap (λ (n : Numbering). n.things) told.numbering
 
-    pub not_released : Releases old.join a new.join nothing → IsStep old (Release atom) new NoEffect
-    not_released h =
-        subst (λ (o : Open). IsStep old (Release atom) o NoEffect) (sym (same_open old new rest h.1))
-        (unchanged old (Release atom) ready.whole (no_input_named old (tree_of_value atom) a here h.0, refl) (ready.silent, refl, refl))
+      pub is_released : Releases old.join a new.join Done → IsStep old (Release atom) new Released
+      is_released h = record {
+        answers = subst (λ (o : Open). Answers (state_in old) (Release atom) released (state_in o)) (sym rest)
+            ((a, record { named = here.there; input = h.0 }, h.1), refl, refl);
+        logs = subst (λ (o : Open). Logs (state_in old) (Release atom) released o.notes (state_in o)) (sym rest) (ready.silent, things_stay, told.kept);
+        whole = still;
+        named = tt;
+        keeps = subst (λ (o : Open). Keeps old.terms o.terms) (sym rest) (keeps_same old.terms);
+      }
+
+      not_released_state : new.join ≡ old.join → state_in new ≡ state_in old
+      not_released_state same =
+          ap state_in rest
+          ∙ (λ i. record { texts = old.parts; names = names_of old; join = same i; things = things_stay i; kept = told.kept i })
+
+      pub not_released : Releases old.join a new.join nothing → IsStep old (Release atom) new NoEffect
+      not_released h = record {
+        answers = (no_input_named old (tree_of_value atom) a here h.0, not_released_state h.1);
+        logs = (ap (λ (o : Open). o.notes) rest ∙ ready.silent, things_stay, told.kept);
+        whole = still;
+        named = tt;
+        keeps = subst (λ (o : Open). Keeps old.terms o.terms) (sym rest) (keeps_same old.terms);
+      }

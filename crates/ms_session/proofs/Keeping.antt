@@ -6,11 +6,10 @@ use Rattle.ms_tree.specs.Tree.{Tree, number}
 use Rattle.ms_term.specs.Terms.{term_at}
 use Rattle.ms_core.specs.Texts.{Texts}
 use Rattle.ms_join.specs.Modules.{Join}
-use Rattle.ms_join.specs.Things.{Thing}
-use Rattle.ms_complete.specs.Numbering.{Numbering}
+use Rattle.ms_solver.specs.States.{kept_of}
 use Rattle.ms_value.specs.Naming.{Keeps}
 use Rattle.ms_machine.specs.Machine.{State}
-use Rattle.ms_session.specs.Kept.{IsSound, state_by}
+use Rattle.ms_session.specs.Fitting.{IsSound, Watcher, state_at}
 
 pub names_kept : (old new : List Tree) (base : List ℕ) → Keeps old new → All (λ t. t < length old) base → map (term_at new) base ≡ map (term_at old) base
 names_kept old new [] k h = refl
@@ -23,22 +22,22 @@ named_kept old new base k h =
     let longer : length old ≤ length new = k.longer in
     All-weaker (λ t. t < length old) (λ t. t < length new) (λ t below. omega arith) base h
 
-pub sound_kept : (old new : List Tree) (base : List ℕ) (join : Join) (numbering : Numbering) → Keeps old new → IsSound old base join numbering → IsSound new base join numbering
-sound_kept old new base join numbering k s = record {
+pub sound_kept : (old new : List Tree) (base : List ℕ) (join : Join) (solver : Watcher) → Keeps old new → IsSound old base join solver → IsSound new base join solver
+sound_kept old new base join solver k s = record {
   named = named_kept old new base k s.named;
   counted = s.counted;
   few = s.few;
-  declared = s.declared;
+  fit = s.fit;
   names = s.names;
 }
 
-state_with : Texts → Join → List Thing → List Tree → State
-state_with texts join things names = record { texts = texts; names = names; join = join; things = things; kept = [] }
+state_with : Texts → Join → Watcher → List Tree → State
+state_with texts join solver names = record { texts = texts; names = names; join = join; things = solver.knows.numbering.things; kept = kept_of solver.knows }
 
-pub state_kept : (old new : List Tree) (texts : Texts) (base : List ℕ) (join : Join) (things : List Thing) → Keeps old new → All (λ t. t < length old) base
-    → state_by new texts base join things ≡ state_by old texts base join things
+pub state_kept : (old new : List Tree) (texts : Texts) (base : List ℕ) (join : Join) (solver : Watcher) → Keeps old new → All (λ t. t < length old) base
+    → state_at new texts base join solver ≡ state_at old texts base join solver
 unfolding state_with
-state_kept old new texts base join things k h = ap (state_with texts join things) (names_kept old new base k h)
+state_kept old new texts base join solver k h = ap (state_with texts join solver) (names_kept old new base k h)
 
 -- the table up to where it was
 pub table_back : (old new : List Tree) → Keeps old new → take (length old) new ≡ old

@@ -1,11 +1,13 @@
-mod Brought
 mod Telling
 mod Keeping
 mod Finding
 mod Rows
-mod Assumed
+mod Gathering
+mod Asked
+mod Solved
 mod Refusing
 mod Stepping
 mod Sealing
+mod Turning
 mod Inputs
 mod Opening

@@ -5,13 +5,14 @@ use Rattle.ms_base.specs.declared.memory.OutOfMemory.{OutOfMemory}
 use Rattle.ms_call.specs.declared.command.Command.{Command}
 use Rattle.ms_tree.specs.Tree.{Tree}
 use Rattle.ms_machine.specs.declared.reply.Reply.{Reply}
+use Rattle.ms_solver.specs.States.{kept_of}
 use Rattle.ms_session.specs.declared.open_session.Open.{Open}
 use Rattle.ms_session.specs.Kept.{Kept, IsDone, IsFound, IsNumberOf, state_of}
 use Rattle.ms_session.specs.Opened.{IsReady, IsStep, IsWhole, names_of}
 
 -- what a session with this open one keeps
 abbrev pub kept_by : Bool → Open → Kept
-kept_by sealed o = record { sealed = sealed; table = o.terms; texts = o.parts; base = o.base; join = o.join; things = o.things.things; notes = o.notes }
+kept_by sealed o = record { sealed = sealed; table = o.terms; texts = o.parts; base = o.base; join = o.join; things = o.solver.knows.numbering.things; kept = kept_of o.solver.knows; notes = o.notes }
 
 step_done : (sealed now : Bool) (old new : Open) (command : Command) (r : Result Reply OutOfMemory) → sealed ≡ false → now ≡ is_err r
     → IfOk r (IsStep old command new) → IfOk r (IsDone (kept_by sealed old) command (kept_by now new))

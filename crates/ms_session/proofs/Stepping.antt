@@ -13,15 +13,13 @@ use Rattle.ms_call.specs.declared.command.Call.{Call}
 use Rattle.ms_call.specs.declared.command.Command.TheVariants.{Ground}
 use Rattle.ms_join.specs.declared.ground_module.GroundModule.{GroundModule}
 use Rattle.ms_join.specs.Modules.{Join, IsWellFormed}
-use Rattle.ms_join.specs.Things.{Thing}
 use Rattle.ms_lits.specs.declared.note.Note.{Note}
-use Rattle.ms_things.specs.Numbers.{AreThings}
-use Rattle.ms_complete.specs.Numbering.{Numbering}
+use Rattle.ms_solver.specs.States.{kept_of}
 use Rattle.ms_ctxground.specs.Grounds.{IsGround, IsLater, IsRefused as TooLargeFor, HasAggregates}
 use Rattle.ms_machine.specs.declared.reply.Reply.{Reply}
 use Rattle.ms_machine.specs.declared.reply.Reply.TheVariants.{Added, Grounded, Assigned, Released, NoEffect, Solved, Refused}
 use Rattle.ms_machine.specs.declared.reply.Refusal.{Refusal}
-use Rattle.ms_machine.specs.declared.reply.Refusal.TheVariants.{Command, Unfinished, Syntax, Const, Later, TooLarge, TooMany, Redefined, CrossLoop, RecursiveAggregate, Small}
+use Rattle.ms_machine.specs.declared.reply.Refusal.TheVariants.{Command, Unfinished, Syntax, Const, Later, TooLarge, TooMany, Redefined, CrossLoop, RecursiveAggregate}
 use Rattle.ms_copies.specs.Simplifying.{ArePlain}
 use Rattle.ms_solving.specs.Grounding.{core_of_calls, Grounds}
 use Rattle.ms_machine.specs.Logging.{LogsThings}
@@ -29,7 +27,8 @@ use Rattle.ms_machine.specs.Machine.{Answers, Logs, State}
 use Rattle.ms_value.proofs.Tables.{keeps_same}
 use Rattle.ms_machine.specs.Replies.{refused, said_by}
 use Rattle.ms_session.specs.declared.open_session.Open.{Open}
-use Rattle.ms_session.specs.Kept.{IsNamed, IsSound, state_by}
+use Rattle.ms_session.specs.Fitting.{IsSound, Watcher, state_at}
+use Rattle.ms_session.specs.Kept.{IsNamed}
 use Rattle.ms_session.specs.Opened.{IsReady, IsStep, state_in}
 use Rattle.ms_session.specs.Joining.{DeclaresAs, IsGrownBase, IsGrownOver, JoinsAs, RefusesAs, StaysWhereRefused}
 use Rattle.ms_session.proofs.Keeping.{names_kept, state_kept, sound_kept, table_back}
@@ -59,41 +58,40 @@ base_back rules old new base grown after m g is =
     is ∙ ap (take (length base)) g.grown ∙ take-append_seam base m.names
 
 -- nothing changed but the table
-same_state : (old new : List Tree) (texts : Texts) (base after : List ℕ) (join next : Join) (things now : Numbering) → Keeps old new → All (λ t. t < length old) base
-    → after ≡ base → next ≡ join → now ≡ things → state_by new texts after next now.things ≡ state_by old texts base join things.things
-same_state old new texts base after join next things now k named same_base same_join same_things =
-    ap (λ b. state_by new texts b next now.things) same_base
-    ∙ ap (λ j. state_by new texts base j now.things) same_join
-    ∙ ap (λ (n : Numbering). state_by new texts base join n.things) same_things
-    ∙ state_kept old new texts base join things.things k named
+same_state : (old new : List Tree) (texts : Texts) (base after : List ℕ) (join next : Join) (solver now : Watcher) → Keeps old new → All (λ t. t < length old) base
+    → after ≡ base → next ≡ join → now ≡ solver → state_at new texts after next now ≡ state_at old texts base join solver
+same_state old new texts base after join next solver now k named same_base same_join same_solver =
+    ap (λ b. state_at new texts b next now) same_base
+    ∙ ap (λ j. state_at new texts base j now) same_join
+    ∙ ap (λ (n : Watcher). state_at new texts base join n) same_solver
+    ∙ state_kept old new texts base join solver k named
 
-refused_as : (texts : Texts) (calls : List Call) (old new : List Tree) (base grown after : List ℕ) (join next : Join) (things now : List Thing) (m : GroundModule) (refusal : Refusal)
+refused_as : (texts : Texts) (calls : List Call) (old new : List Tree) (base grown after : List ℕ) (join next : Join) (solver now : Watcher) (m : GroundModule) (refusal : Refusal)
     → All (λ t. t < length old) base → IsGround (core_of_calls texts calls) old new base grown m
     → RefusesAs (map (term_at old) base ++ map (term_at new) m.names) join m refusal
-    → state_by new texts after next now ≡ state_by old texts base join things
-    → Answers (state_by old texts base join things) (Ground calls) (refused refusal) (state_by new texts after next now)
-refused_as texts calls old new base grown after join next things now m TooMany named g why same =
+    → state_at new texts after next now ≡ state_at old texts base join solver
+    → Answers (state_at old texts base join solver) (Ground calls) (refused refusal) (state_at new texts after next now)
+refused_as texts calls old new base grown after join next solver now m TooMany named g why same =
     (record { names = map (term_at new) m.names; ground_module = m; grounds = grounds (core_of_calls texts calls) old new base grown m g; why = why }, same)
-refused_as texts calls old new base grown after join next things now m (Redefined atom) named g why same =
+refused_as texts calls old new base grown after join next solver now m (Redefined atom) named g why same =
     (record { names = map (term_at new) m.names; ground_module = m; grounds = grounds (core_of_calls texts calls) old new base grown m g; why = why }, same)
-refused_as texts calls old new base grown after join next things now m (CrossLoop new_head other) named g why same =
+refused_as texts calls old new base grown after join next solver now m (CrossLoop new_head other) named g why same =
     (record { names = map (term_at new) m.names; ground_module = m; grounds = grounds (core_of_calls texts calls) old new base grown m g; why = why }, same)
-refused_as texts calls old new base grown after join next things now m (RecursiveAggregate atom) named g why same =
+refused_as texts calls old new base grown after join next solver now m (RecursiveAggregate atom) named g why same =
     (record { names = map (term_at new) m.names; ground_module = m; grounds = grounds (core_of_calls texts calls) old new base grown m g; why = why }, same)
-refused_as texts calls old new base grown after join next things now m Command named g why same = elim why [ ]
-refused_as texts calls old new base grown after join next things now m Unfinished named g why same = elim why [ ]
-refused_as texts calls old new base grown after join next things now m (Syntax at) named g why same = elim why [ ]
-refused_as texts calls old new base grown after join next things now m (Const at) named g why same = elim why [ ]
-refused_as texts calls old new base grown after join next things now m Later named g why same = elim why [ ]
-refused_as texts calls old new base grown after join next things now m TooLarge named g why same = elim why [ ]
-refused_as texts calls old new base grown after join next things now m Small named g why same = elim why [ ]
+refused_as texts calls old new base grown after join next solver now m Command named g why same = elim why [ ]
+refused_as texts calls old new base grown after join next solver now m Unfinished named g why same = elim why [ ]
+refused_as texts calls old new base grown after join next solver now m (Syntax at) named g why same = elim why [ ]
+refused_as texts calls old new base grown after join next solver now m (Const at) named g why same = elim why [ ]
+refused_as texts calls old new base grown after join next solver now m Later named g why same = elim why [ ]
+refused_as texts calls old new base grown after join next solver now m TooLarge named g why same = elim why [ ]
 
-module_steps : (texts : Texts) (calls : List Call) (old new : List Tree) (base grown after : List ℕ) (join next : Join) (things now : Numbering) (notes : List Note) (m : GroundModule) (mark : ℕ)
+module_steps : (texts : Texts) (calls : List Call) (old new : List Tree) (base grown after : List ℕ) (join next : Join) (solver now : Watcher) (notes : List Note) (m : GroundModule) (mark : ℕ)
     (reply : Reply)
-    → IsSound old base join things → mark ≡ length base → IsGround (core_of_calls texts calls) old new base grown m
-    → JoinsAs new mark m grown join after next reply → DeclaresAs new grown next things now notes reply
-    → Answers (state_by old texts base join things.things) (Ground calls) (said_by new reply) (state_by new texts after next now.things)
-module_steps texts calls old new base grown after join next things now notes m mark (Grounded atoms rules) s at g h d = record {
+    → IsSound old base join solver → mark ≡ length base → IsGround (core_of_calls texts calls) old new base grown m
+    → JoinsAs new mark m grown join after next reply → DeclaresAs new grown next solver now notes reply
+    → Answers (state_at old texts base join solver) (Ground calls) (said_by new reply) (state_at new texts after next now)
+module_steps texts calls old new base grown after join next solver now notes m mark (Grounded atoms rules) s at g h d = record {
   names = map (term_at new) m.names;
   ground_module = m;
   grounds = grounds (core_of_calls texts calls) old new base grown m g;
@@ -104,37 +102,37 @@ module_steps texts calls old new base grown after join next things now notes m m
   longer = ap (map (term_at new)) h.3 ∙ names_grown (core_of_calls texts calls) old new base grown m g s.named;
   joined = h.4;
 }
-module_steps texts calls old new base grown after join next things now notes m mark (Refused refusal) s at g h d =
-    refused_as texts calls old new base grown after join next things.things now.things m refusal s.named g
+module_steps texts calls old new base grown after join next solver now notes m mark (Refused refusal) s at g h d =
+    refused_as texts calls old new base grown after join next solver now m refusal s.named g
     (subst (λ (names : List Tree). RefusesAs names join m refusal) (names_grown (core_of_calls texts calls) old new base grown m g s.named) h.0)
-    (same_state old new texts base after join next things now g.keeps s.named
+    (same_state old new texts base after join next solver now g.keeps s.named
     (base_back (core_of_calls texts calls) old new base grown after m g (h.1 ∙ ap (λ k. take k grown) at)) h.2 d.1)
-module_steps texts calls old new base grown after join next things now notes m mark (Added count) s at g h d = elim h [ ]
-module_steps texts calls old new base grown after join next things now notes m mark Assigned s at g h d = elim h [ ]
-module_steps texts calls old new base grown after join next things now notes m mark Released s at g h d = elim h [ ]
-module_steps texts calls old new base grown after join next things now notes m mark NoEffect s at g h d = elim h [ ]
-module_steps texts calls old new base grown after join next things now notes m mark (Solved ending count limit shown) s at g h d = elim h [ ]
+module_steps texts calls old new base grown after join next solver now notes m mark (Added count) s at g h d = elim h [ ]
+module_steps texts calls old new base grown after join next solver now notes m mark Assigned s at g h d = elim h [ ]
+module_steps texts calls old new base grown after join next solver now notes m mark Released s at g h d = elim h [ ]
+module_steps texts calls old new base grown after join next solver now notes m mark NoEffect s at g h d = elim h [ ]
+module_steps texts calls old new base grown after join next solver now notes m mark (Solved ending count limit shown) s at g h d = elim h [ ]
 
 -- the lines of the log declare what is new
-module_logs : (texts : Texts) (calls : List Call) (old new : List Tree) (base grown after : List ℕ) (join next : Join) (things now : Numbering) (notes : List Note) (m : GroundModule) (mark : ℕ)
+module_logs : (texts : Texts) (calls : List Call) (old new : List Tree) (base grown after : List ℕ) (join next : Join) (solver now : Watcher) (notes : List Note) (m : GroundModule) (mark : ℕ)
     (reply : Reply)
-    → JoinsAs new mark m grown join after next reply → DeclaresAs new grown next things now notes reply
-    → Logs (state_by old texts base join things.things) (Ground calls) (said_by new reply) notes (state_by new texts after next now.things)
-module_logs texts calls old new base grown after join next things now notes m mark (Grounded atoms rules) h d =
-    (subst (λ (b : List ℕ). LogsThings next (map (term_at new) b) things.things notes now.things) (sym h.3) d.0, refl)
-module_logs texts calls old new base grown after join next things now notes m mark (Refused refusal) h d =
-    (d.0, ap (λ (n : Numbering). n.things) d.1, refl)
-module_logs texts calls old new base grown after join next things now notes m mark (Added count) h d = elim h [ ]
-module_logs texts calls old new base grown after join next things now notes m mark Assigned h d = elim h [ ]
-module_logs texts calls old new base grown after join next things now notes m mark Released h d = elim h [ ]
-module_logs texts calls old new base grown after join next things now notes m mark NoEffect h d = elim h [ ]
-module_logs texts calls old new base grown after join next things now notes m mark (Solved ending count limit shown) h d = elim h [ ]
+    → JoinsAs new mark m grown join after next reply → DeclaresAs new grown next solver now notes reply
+    → Logs (state_at old texts base join solver) (Ground calls) (said_by new reply) notes (state_at new texts after next now)
+module_logs texts calls old new base grown after join next solver now notes m mark (Grounded atoms rules) h d =
+    (subst (λ (b : List ℕ). LogsThings next (map (term_at new) b) solver.knows.numbering.things notes now.knows.numbering.things) (sym h.3) d.logs, d.kept)
+module_logs texts calls old new base grown after join next solver now notes m mark (Refused refusal) h d =
+    (d.0, ap (λ (n : Watcher). n.knows.numbering.things) d.1, ap (λ (n : Watcher). kept_of n.knows) d.1)
+module_logs texts calls old new base grown after join next solver now notes m mark (Added count) h d = elim h [ ]
+module_logs texts calls old new base grown after join next solver now notes m mark Assigned h d = elim h [ ]
+module_logs texts calls old new base grown after join next solver now notes m mark Released h d = elim h [ ]
+module_logs texts calls old new base grown after join next solver now notes m mark NoEffect h d = elim h [ ]
+module_logs texts calls old new base grown after join next solver now notes m mark (Solved ending count limit shown) h d = elim h [ ]
 
-module_sound : (rules : List CoreRule) (old new : List Tree) (base grown after : List ℕ) (join next : Join) (things now : Numbering) (notes : List Note) (m : GroundModule) (mark : ℕ) (reply : Reply)
-    → IsSound old base join things → mark ≡ length base → IsGround rules old new base grown m
-    → JoinsAs new mark m grown join after next reply → DeclaresAs new grown next things now notes reply
+module_sound : (rules : List CoreRule) (old new : List Tree) (base grown after : List ℕ) (join next : Join) (solver now : Watcher) (notes : List Note) (m : GroundModule) (mark : ℕ) (reply : Reply)
+    → IsSound old base join solver → mark ≡ length base → IsGround rules old new base grown m
+    → JoinsAs new mark m grown join after next reply → DeclaresAs new grown next solver now notes reply
     → IsSound new after next now
-module_sound rules old new base grown after join next things now notes m mark (Grounded atoms count) s at g h d =
+module_sound rules old new base grown after join next solver now notes m mark (Grounded atoms count) s at g h d =
     let same : after ≡ grown = h.3 in
     let atoms_are : next.atoms ≡ join.atoms + m.fresh = h.4.atoms in
     let few : join.atoms + m.fresh ≤ most_things = few_atoms join m h.0 in
@@ -145,28 +143,28 @@ module_sound rules old new base grown after join next things now notes m mark (G
       named = g.base.named;
       counted = omega arith;
       few = omega arith;
-      declared = subst (AreThings next) (sym d.0.longer) d.0.declares;
-      names = d.1;
+      fit = d.fit;
+      names = d.names;
     })
-module_sound rules old new base grown after join next things now notes m mark (Refused refusal) s at g h d =
+module_sound rules old new base grown after join next solver now notes m mark (Refused refusal) s at g h d =
     let same : after ≡ base = base_back rules old new base grown after m g (h.1 ∙ ap (λ k. take k grown) at) in
     subst (λ (b : List ℕ). IsSound new b next now) (sym same)
     (subst (λ (j : Join). IsSound new base j now) (sym h.2)
-    (subst (λ (n : Numbering). IsSound new base join n) (sym d.1) (sound_kept old new base join things g.keeps s)))
-module_sound rules old new base grown after join next things now notes m mark (Added count) s at g h d = elim h [ ]
-module_sound rules old new base grown after join next things now notes m mark Assigned s at g h d = elim h [ ]
-module_sound rules old new base grown after join next things now notes m mark Released s at g h d = elim h [ ]
-module_sound rules old new base grown after join next things now notes m mark NoEffect s at g h d = elim h [ ]
-module_sound rules old new base grown after join next things now notes m mark (Solved ending count limit shown) s at g h d = elim h [ ]
+    (subst (λ (n : Watcher). IsSound new base join n) (sym d.1) (sound_kept old new base join solver g.keeps s)))
+module_sound rules old new base grown after join next solver now notes m mark (Added count) s at g h d = elim h [ ]
+module_sound rules old new base grown after join next solver now notes m mark Assigned s at g h d = elim h [ ]
+module_sound rules old new base grown after join next solver now notes m mark Released s at g h d = elim h [ ]
+module_sound rules old new base grown after join next solver now notes m mark NoEffect s at g h d = elim h [ ]
+module_sound rules old new base grown after join next solver now notes m mark (Solved ending count limit shown) s at g h d = elim h [ ]
 
 -- an aggregate is where not all rules are plain
 not_plain : (rules : List CoreRule) → HasAggregates rules → ¬ ArePlain rules
 not_plain rules h plain = h.4 (subst (λ (rule : CoreRule). rule.aggs ≡ []) h.3 (plain h.0 h.1 h.2))
 
 -- the base that grounding left is that of the join and the module's atoms
-pub grown_base : (rules : List CoreRule) (old new : List Tree) (base grown : List ℕ) (join : Join) (things : Numbering) (m : GroundModule) (mark : ℕ)
-    → IsSound old base join things → mark ≡ length base → IsGround rules old new base grown m → IsGrownBase new mark grown join m
-grown_base rules old new base grown join things m mark s at g =
+pub grown_base : (rules : List CoreRule) (old new : List Tree) (base grown : List ℕ) (join : Join) (solver : Watcher) (m : GroundModule) (mark : ℕ)
+    → IsSound old base join solver → mark ≡ length base → IsGround rules old new base grown m → IsGrownBase new mark grown join m
+grown_base rules old new base grown join solver m mark s at g =
     let counted : length base ≡ join.atoms = s.counted in
     let fresh : m.fresh ≡ length m.names = g.well_formed.fresh in
     let long : length grown ≡ length base + length m.names = ap length g.grown ∙ length-append base m.names in
@@ -178,28 +176,27 @@ grown_base rules old new base grown join things m mark s at g =
     }
 
 -- the things are those of the join before
-pub grown_over : (rules : List CoreRule) (old new : List Tree) (base grown : List ℕ) (join : Join) (things : Numbering) (m : GroundModule)
-    → IsSound old base join things → IsGround rules old new base grown m → IsGrownOver join things grown m
-grown_over rules old new base grown join things m s g = record {
-  declared = s.declared;
-  named = ap length s.names ∙ s.counted;
+pub grown_over : (rules : List CoreRule) (old new : List Tree) (base grown : List ℕ) (join : Join) (solver : Watcher) (m : GroundModule)
+    → IsSound old base join solver → IsGround rules old new base grown m → IsGrownOver join solver grown m
+grown_over rules old new base grown join solver m s g = record {
+  fit = s.fit;
   grown = g.grown ∙ ap (λ (b : List ℕ). b ++ m.names) (sym s.names);
 }
 
-later_step : (texts : Texts) (calls : List Call) (old new : List Tree) (base after : List ℕ) (join : Join) (things : Numbering) → All (λ t. t < length old) base
-    → IsLater (core_of_calls texts calls) old new base after → Answers (state_by old texts base join things.things) (Ground calls) (refused Later) (state_by new texts after join things.things)
-later_step texts calls old new base after join things named l =
-    (not_plain (core_of_calls texts calls) l.aggregates, same_state old new texts base after join join things things l.keeps named l.same refl refl)
+later_step : (texts : Texts) (calls : List Call) (old new : List Tree) (base after : List ℕ) (join : Join) (solver : Watcher) → All (λ t. t < length old) base
+    → IsLater (core_of_calls texts calls) old new base after → Answers (state_at old texts base join solver) (Ground calls) (refused Later) (state_at new texts after join solver)
+later_step texts calls old new base after join solver named l =
+    (not_plain (core_of_calls texts calls) l.aggregates, same_state old new texts base after join join solver solver l.keeps named l.same refl refl)
 
-large_step : (texts : Texts) (calls : List Call) (old new : List Tree) (base after : List ℕ) (join : Join) (things : Numbering) → All (λ t. t < length old) base
-    → TooLargeFor (core_of_calls texts calls) old new base after → Answers (state_by old texts base join things.things) (Ground calls) (refused TooLarge) (state_by new texts after join things.things)
-large_step texts calls old new base after join things named r =
-    (r.plain, r.large, same_state old new texts base after join join things things r.keeps named r.same refl refl)
+large_step : (texts : Texts) (calls : List Call) (old new : List Tree) (base after : List ℕ) (join : Join) (solver : Watcher) → All (λ t. t < length old) base
+    → TooLargeFor (core_of_calls texts calls) old new base after → Answers (state_at old texts base join solver) (Ground calls) (refused TooLarge) (state_at new texts after join solver)
+large_step texts calls old new base after join solver named r =
+    (r.plain, r.large, same_state old new texts base after join join solver solver r.keeps named r.same refl refl)
 
--- a refusal leaves the base, the join and the things
+-- a refusal leaves the base, the join and the solver
 pub module_stays : (rules : List CoreRule) (old now : Open) (terms : List Tree) (grown : List ℕ) (m : GroundModule) (mark : ℕ) (reply : Reply)
     → mark ≡ length old.base → IsGround rules old.terms terms old.base grown m → JoinsAs terms mark m grown old.join now.base now.join reply
-    → DeclaresAs terms grown now.join old.things now.things now.notes reply → StaysWhereRefused old now reply
+    → DeclaresAs terms grown now.join old.solver now.solver now.notes reply → StaysWhereRefused old now reply
 module_stays rules old now terms grown m mark (Refused refusal) at g h d =
     (base_back rules old.terms terms old.base grown now.base m g (h.1 ∙ ap (λ k. take k grown) at), h.2, d.1, d.0)
 module_stays rules old now terms grown m mark (Grounded atoms count) at g h d = tt
@@ -221,26 +218,26 @@ module_named size table mark m grown after join next (Solved ending count limit 
 
 module _ (calls : List Call) (old : Open) (ready : IsReady old) where
   -- joining the module or refusing it is a step of the open session
-  pub joining_step : (terms : List Tree) (grown after : List ℕ) (next : Join) (now : Numbering) (notes : List Note) (m : GroundModule) (mark : ℕ) (reply : Reply) → mark ≡ length old.base
-      → IsGround (core_of_calls old.parts calls) old.terms terms old.base grown m → JoinsAs terms mark m grown old.join after next reply → DeclaresAs terms grown next old.things now notes reply
-      → IsStep old (Ground calls) (record old { terms = terms; base = after; join = next; things = now; notes = notes }) reply
+  pub joining_step : (terms : List Tree) (grown after : List ℕ) (next : Join) (now : Watcher) (notes : List Note) (m : GroundModule) (mark : ℕ) (reply : Reply) → mark ≡ length old.base
+      → IsGround (core_of_calls old.parts calls) old.terms terms old.base grown m → JoinsAs terms mark m grown old.join after next reply → DeclaresAs terms grown next old.solver now notes reply
+      → IsStep old (Ground calls) (record old { terms = terms; base = after; join = next; solver = now; notes = notes }) reply
   joining_step terms grown after next now notes m mark reply at g h d = record {
-    answers = module_steps old.parts calls old.terms terms old.base grown after old.join next old.things now notes m mark reply ready.whole at g h d;
-    logs = module_logs old.parts calls old.terms terms old.base grown after old.join next old.things now notes m mark reply h d;
-    whole = module_sound (core_of_calls old.parts calls) old.terms terms old.base grown after old.join next old.things now notes m mark reply ready.whole at g h d;
+    answers = module_steps old.parts calls old.terms terms old.base grown after old.join next old.solver now notes m mark reply ready.whole at g h d;
+    logs = module_logs old.parts calls old.terms terms old.base grown after old.join next old.solver now notes m mark reply h d;
+    whole = module_sound (core_of_calls old.parts calls) old.terms terms old.base grown after old.join next old.solver now notes m mark reply ready.whole at g h d;
     named = module_named (length terms) terms mark m grown after old.join next reply h;
     keeps = g.keeps;
   }
 
   -- where the base stays and the table keeps its names, what was whole is
-  kept_whole : (terms : List Tree) (after : List ℕ) → Keeps old.terms terms → after ≡ old.base → IsSound terms after old.join old.things
-  kept_whole terms after k same = subst (λ (b : List ℕ). IsSound terms b old.join old.things) (sym same) (sound_kept old.terms terms old.base old.join old.things k ready.whole)
+  kept_whole : (terms : List Tree) (after : List ℕ) → Keeps old.terms terms → after ≡ old.base → IsSound terms after old.join old.solver
+  kept_whole terms after k same = subst (λ (b : List ℕ). IsSound terms b old.join old.solver) (sym same) (sound_kept old.terms terms old.base old.join old.solver k ready.whole)
 
   -- so is that there is none
   pub later : (terms : List Tree) (after : List ℕ) → IsLater (core_of_calls old.parts calls) old.terms terms old.base after
       → IsStep old (Ground calls) (record old { terms = terms; base = after }) (Refused Later)
   later terms after l = record {
-    answers = later_step old.parts calls old.terms terms old.base after old.join old.things ready.whole.named l;
+    answers = later_step old.parts calls old.terms terms old.base after old.join old.solver ready.whole.named l;
     logs = (ready.silent, refl, refl);
     whole = kept_whole terms after l.keeps l.same;
     named = tt;
@@ -250,7 +247,7 @@ module _ (calls : List Call) (old : Open) (ready : IsReady old) where
   pub large : (terms : List Tree) (after : List ℕ) → TooLargeFor (core_of_calls old.parts calls) old.terms terms old.base after
       → IsStep old (Ground calls) (record old { terms = terms; base = after }) (Refused TooLarge)
   large terms after r = record {
-    answers = large_step old.parts calls old.terms terms old.base after old.join old.things ready.whole.named r;
+    answers = large_step old.parts calls old.terms terms old.base after old.join old.solver ready.whole.named r;
     logs = (ready.silent, refl, refl);
     whole = kept_whole terms after r.keeps r.same;
     named = tt;
@@ -263,10 +260,10 @@ module _ (calls : List Call) (old : Open) (ready : IsReady old) where
   going_back mid cut refusal texts stays is h =
       let back : cut ≡ old.terms = is ∙ table_back old.terms mid.terms h.keeps in
       let silent : mid.notes ≡ old.notes = stays.3 ∙ sym ready.silent in
-      let same : record mid { terms = cut } ≡ old = λ i. record { parts = texts i; terms = back i; base = stays.0 i; join = stays.1 i; things = stays.2 i; notes = silent i } in
+      let same : record mid { terms = cut } ≡ old = λ i. record { parts = texts i; terms = back i; base = stays.0 i; join = stays.1 i; solver = stays.2 i; notes = silent i } in
       let state : state_in mid ≡ state_in old =
-      ap (λ (ts : Texts). state_by mid.terms ts mid.base mid.join mid.things.things) texts
-      ∙ same_state old.terms mid.terms old.parts old.base mid.base old.join mid.join old.things mid.things h.keeps ready.whole.named stays.0 stays.1 stays.2 in
+      ap (λ (ts : Texts). state_at mid.terms ts mid.base mid.join mid.solver) texts
+      ∙ same_state old.terms mid.terms old.parts old.base mid.base old.join mid.join old.solver mid.solver h.keeps ready.whole.named stays.0 stays.1 stays.2 in
       subst (λ (o : Open). IsStep old (Ground calls) o (Refused refusal)) (sym same) (record {
         answers = subst (λ (s : State). Answers (state_in old) (Ground calls) (refused refusal) s) state h.answers;
         logs = (ready.silent, refl, refl);

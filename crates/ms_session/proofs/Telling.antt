@@ -1,25 +1,27 @@
 -- The notes of the numbered things are lines of the machine's log.
-use Rattle.std.proofs.Common.{◌≡◌, ◌∙◌, ◌+◌, ◌<◌, ◌++◌, ℕ, List, [], ◌∷◌, Option, length, map, drop, sym, ap, subst, arith}
-use Rattle.std.specs.Prelude.{IsSomeAnd, slice_get}
-use Rattle.std.specs.List.{All, AllZip}
-use Rattle.std.proofs.lemmas.List.{length-append}
-use Rattle.std.proofs.lemmas.Option.{slice_get-get_or}
+use Rattle.std.proofs.Common.{◌≡◌, ◌∙◌, ◌++◌, ◌<◌, ℕ, List, [], ◌∷◌, All, length, map, drop, sym, ap, subst}
+use Rattle.std.specs.List.{AllZip}
 use Rattle.std.proofs.Math.Seq.{drop-append_seam}
 use Rattle.ms_tree.specs.Tree.{Tree}
 use Rattle.ms_term.specs.Terms.{term_at}
 use Rattle.ms_lits.specs.declared.note.Note.{Note}
 use Rattle.ms_join.specs.declared.ground_module.GroundModule.{GroundModule}
+use Rattle.ms_join.specs.Composability.{IsComposable}
+use Rattle.ms_join.specs.Modules.{Join, IsJoin, IsJoined, IsWellFormed}
 use Rattle.ms_join.specs.Things.{Thing}
 use Rattle.ms_join.specs.Things.Thing.{atom, body, tuple, aggregate}
 use Rattle.ms_things.specs.Numbers.{AreThings}
-use Rattle.ms_nogood.specs.Store.{Store}
-use Rattle.ms_complete.specs.Numbering.{Numbering, AreDeclared}
-use Rattle.ms_complete.specs.Completing.{Completes}
-use Rattle.ms_complete.specs.Notes.{AreNamed, Tells as TellsBy}
+use Rattle.ms_complete.specs.Numbering.{Numbering}
+use Rattle.ms_complete.specs.Notes.{Tells as TellsBy}
 use Rattle.ms_complete.proofs.Lists.{at_map}
 use Rattle.ms_machine.specs.Logging.{Tells}
-use Rattle.ms_session.specs.Declaring.{CanDeclare, DeclaresNew}
-use Rattle.ms_session.proofs.Brought.{its_thing, are_things}
+use Rattle.ms_search.specs.Runs.{AreAttached, empty_trail}
+use Rattle.ms_solver.specs.Extending.{KeepsNumbers}
+use Rattle.ms_solver.specs.States.{CanExtend, Joins, Serves, kept_of}
+use Rattle.ms_watch.specs.Watches.{AreInStep, is_attached, state_in as state_of_key}
+use Rattle.ms_session.specs.Declaring.{DeclaresNew}
+use Rattle.ms_session.specs.Fitting.{Watcher}
+use Rattle.ms_session.specs.Joining.{IsGrownOver}
 
 module _ (n : Numbering) (table : List Tree) where
   told : (t : Thing) (note : Note) → TellsBy n table t note → Tells (map (term_at table) n.names) n.things t note
@@ -34,31 +36,41 @@ module _ (n : Numbering) (table : List Tree) where
   all_told [] (note ∷ notes) h = absurd h
   all_told (t ∷ things) [] h = absurd h
 
-name_at : (names : List ℕ) (bound a : ℕ) → All (λ name. name < bound) names → a < length names → IsSomeAnd (slice_get names a) (λ name. name < bound)
-name_at names bound a each within = subst (λ (o : Option ℕ). IsSomeAnd o (λ name. name < bound)) (sym (slice_get-get_or names a 0 within)) (each a 0 within)
+module _ (base : List ℕ) (join : Join) (old : Watcher) (m : GroundModule) (grown : IsGrownOver join old base m) (formed : IsWellFormed join.atoms m) where
+  -- the solver can take the module
+  pub can_extend : CanExtend old.knows m
+  can_extend = record { join = join; serves = grown.fit.serves; well_formed = formed }
 
-module _ (table : List Tree) (old new : Numbering) (m : GroundModule) (store after : Store) (h : Completes old m store new after) (are : AreDeclared new.things) where
-  -- the names of the declared atoms are those of terms
-  pub are_named : CanDeclare old m → All (λ name. name < length table) (old.names ++ m.names) → AreNamed new table
-  are_named can named a has =
-      let within : a < can.join.atoms + m.fresh = its_thing can.join m can.well_formed old.things h.more new.things h.things h.from h.all can.are are (atom a) has in
-      let old_long : length old.names ≡ can.join.atoms = can.named in
-      let fresh : m.fresh ≡ length m.names = can.well_formed.fresh in
-      let long : length (old.names ++ m.names) ≡ length old.names + length m.names = length-append old.names m.names in
-      let below : a < length (old.names ++ m.names) = omega (arith, within, old_long, fresh, long) in
-      subst (λ (names : List ℕ). IsSomeAnd (slice_get names a) (λ name. name < length table)) (sym h.names)
-      (name_at (old.names ++ m.names) (length table) a named below)
+  -- the names of the atoms are those of the base
+  pub names_within : (size : ℕ) → All (λ t. t < size) base → All (λ t. t < size) (old.knows.numbering.names ++ m.names)
+  names_within size named = subst (λ (names : List ℕ). All (λ t. t < size) names) grown.grown named
 
-  -- they are lines of the log
-  pub declares : (notes : List Note) → AllZip (TellsBy new table) (drop (length old.things) new.things) notes → DeclaresNew table old m new notes
-  declares notes tells = record {
-    names = h.names;
-    logs = λ j joined old_are formed is. record {
-      more = h.more;
-      longer = h.things;
-      declares = subst (AreThings joined) h.things (are_things j m formed old.things h.more new.things h.things h.from h.all old_are are joined is);
-      tells = all_told new table h.more notes
-          (subst (λ (things : List Thing). AllZip (TellsBy new table) things notes)
-          (ap (drop (length old.things)) h.things ∙ drop-append_seam old.things h.more) tells);
-    };
-  }
+  module _ (table : List Tree) (joined : Join) (new : Watcher) (composable : IsComposable join m) (is : IsJoined join m joined) (is_join : IsJoin joined)
+      (numbers : KeepsNumbers m old.knows.numbering new.knows.numbering)
+      (serves : (j other : Join) → Serves old.knows j → Joins j m other → Serves new.knows other) where
+    still : Serves new.knows joined
+    still = serves join joined grown.fit.serves (record { well_formed = formed; composable = composable; joined = is; join = is_join })
+
+    same_names : new.knows.numbering.names ≡ base
+    same_names = numbers.names ∙ sym grown.grown
+
+    -- what a solver that took the module declares
+    pub declares : (notes : List Note) → kept_of new.knows ≡ kept_of old.knows
+        → AreAttached (λ key. is_attached (state_of_key new.search.propagation.keys key)) new.knows.store
+        → AreInStep new.search.propagation new.knows.store (empty_trail new.search.room)
+        → AllZip (TellsBy new.knows.numbering table) (drop (length old.knows.numbering.things) new.knows.numbering.things) notes
+        → DeclaresNew table base joined old new notes
+    declares notes kept attached in_step tells = record {
+      logs = record {
+        more = numbers.more;
+        longer = numbers.things;
+        declares = subst (AreThings joined) numbers.things still.of.are;
+        tells = subst (λ (names : List ℕ). AllZip (Tells (map (term_at table) names) new.knows.numbering.things) numbers.more notes) same_names
+            (all_told new.knows.numbering table numbers.more notes
+            (subst (λ (things : List Thing). AllZip (TellsBy new.knows.numbering table) things notes)
+            (ap (drop (length old.knows.numbering.things)) numbers.things ∙ drop-append_seam old.knows.numbering.things numbers.more) tells));
+      };
+      names = same_names;
+      fit = record { serves = still; attached = attached; in_step = in_step };
+      kept = kept;
+    }

@@ -1,37 +1,32 @@
--- Assumptions by the numbers of their atoms.
-use Rattle.std.specs.Prelude.{ℕ, ◌≡◌, ◌≢◌, ◌↔◌, List, All, length, map}
+-- What is demanded of atoms, by their numbers.
+use Rattle.std.specs.Prelude.{ℕ, ◌≡◌, ◌↔◌, ◌⊎◌, true, List, Option, Some, Any, Contains, slice_get}
 use Rattle.ms_tree.specs.Tree.{Tree}
-use Rattle.ms_term.specs.Terms.{term_at}
-use Rattle.ms_core.specs.Texts.{Texts}
 use Rattle.ms_call.specs.declared.command.Assumption.{Assumption}
-use Rattle.ms_join.specs.Modules.{Join, rules_of}
 use Rattle.ms_join.specs.declared.assumption.AtomLit.{AtomLit}
-use Rattle.ms_join.specs.Assumptions.{MeetsEach, IsMeetingAnswer}
-use Rattle.ms_lits.specs.declared.note.Ending.TheVariants.{Cut}
-use Rattle.ms_machine.specs.declared.reply.Reply.{Reply}
-use Rattle.ms_machine.specs.declared.reply.Reply.TheVariants.{Solved}
-use Rattle.ms_solving.specs.Listing.{Meets, AreAnswers, EndsAs, IsListing, tree_of_value}
-use Rattle.ms_solving.specs.Showing.{shows_atom}
+use Rattle.ms_join.specs.declared.ground_rule.Input.{Input}
+use Rattle.ms_solving.specs.Listing.{tree_of_value}
+use Rattle.ms_session.specs.Kept.{IsNumberOf}
 
--- the set meets each assumption
-abbrev pub AreMet : List Tree → List Assumption → List ℕ → Type 0
-AreMet names assume set = All (λ s. Meets names set (tree_of_value s.atom) s.truth) assume
+-- the value of one of the inputs
+abbrev pub IsValue : List Input → AtomLit → Type 0
+IsValue inputs lit = Contains inputs (record { atom = lit.atom; value = Some lit.truth })
 
--- A set meets the assumptions exactly where it meets the literals.
-abbrev pub MeetSame : List Tree → List Assumption → List AtomLit → Type 0
-MeetSame names assume lits = (set : List ℕ) → AreMet names assume set ↔ MeetsEach set lits
+-- what one of the assumptions says of an atom with these terms
+abbrev pub IsAssumed : List Tree → List Assumption → AtomLit → Type 0
+IsAssumed names assume lit = Any (λ given. (slice_get names lit.atom ≡ Some (tree_of_value given.atom)) × (lit.truth ≡ given.truth)) assume
 
-abbrev pub NoneMeets : List Tree → List Assumption → Type 0
-NoneMeets names assume = (set : List ℕ) → ¬ AreMet names assume set
+-- The literals are exactly those of which it holds.
+abbrev pub AreExactly : (AtomLit → Type 0) → List AtomLit → Type 0
+AreExactly Is lits = (lit : AtomLit) → Contains lits lit ↔ Is lit
 
--- The reply lists answer sets of the join that meet the literals.
-abbrev pub ListsAs : List Tree → Texts → List ℕ → Join → List AtomLit → ℕ → ℕ → Reply → Type 0
-ListsAs table texts base join lits asked limit (Solved ending count most shown) =
-    (sets : List (List ℕ))
-    × AreAnswers (IsMeetingAnswer (length base) (rules_of join) lits) sets
-    × EndsAs ending asked (IsMeetingAnswer (length base) (rules_of join) lits) sets
-    × (count ≡ length sets)
-    × (most ≡ limit)
-    × (ending ≢ Cut)
-    × IsListing (shows_atom texts) (map (term_at table) base) sets (map (map (term_at table)) shown)
-ListsAs table texts base join lits asked limit reply = ⊥
+-- What is assumed is there beside the old literals, and nothing else.
+abbrev pub AddsAssumed : List Tree → List Assumption → List AtomLit → List AtomLit → Type 0
+AddsAssumed names assume old new = AreExactly (λ lit. Contains old lit ⊎ IsAssumed names assume lit) new
+
+-- An atom with none of these terms is assumed true.
+abbrev pub IsImpossibleFor : List Tree → List Assumption → Type 0
+IsImpossibleFor names assume = Any (λ given. (given.truth ≡ true) × ¬ Contains names (tree_of_value given.atom)) assume
+
+-- The atom that is assumed has one number, or none.
+abbrev pub IsKnown : List Tree → Assumption → Type 0
+IsKnown names given = (number : Option ℕ) × IsNumberOf names (tree_of_value given.atom) number

@@ -9,15 +9,14 @@ use Rattle.ms_join.specs.declared.join_fault.JoinFault.TheVariants.{TooMany as t
 use Rattle.ms_join.specs.Modules.{Join, IsJoined, IsWellFormed}
 use Rattle.ms_join.specs.Composability.{name_of, IsComposable, IsTooMany}
 use Rattle.ms_lits.specs.declared.note.Note.{Note}
-use Rattle.ms_things.specs.Numbers.{AreThings}
-use Rattle.ms_complete.specs.Numbering.{Numbering}
 use Rattle.ms_machine.specs.declared.reply.Reply.{Reply}
 use Rattle.ms_session.specs.declared.open_session.Open.{Open}
 use Rattle.ms_machine.specs.declared.reply.Reply.TheVariants.{Grounded, Refused}
 use Rattle.ms_machine.specs.declared.reply.Refusal.{Refusal}
 use Rattle.ms_machine.specs.declared.reply.Refusal.TheVariants.{TooMany, Redefined, CrossLoop, RecursiveAggregate}
-use Rattle.ms_machine.specs.Logging.{LogsThings}
 use Rattle.ms_machine.specs.Machine.{RedefinesAs, LoopsAs, RecursesAs}
+use Rattle.ms_session.specs.Declaring.{DeclaresNew}
+use Rattle.ms_session.specs.Fitting.{IsFit, Watcher}
 
 -- the base has the atoms of the join up to the mark, and then the new atoms of the module
 pub record IsGrownBase (table : List Tree) (mark : ℕ) (base : List ℕ) (join : Join) (m : GroundModule) : Type 0 where
@@ -26,11 +25,10 @@ pub record IsGrownBase (table : List Tree) (mark : ℕ) (base : List ℕ) (join 
   pub named : All (λ t. t < length table) base
   pub counted : length base ≡ join.atoms + m.fresh
 
--- The things are those of the join, without those of the module.
-pub record IsGrownOver (join : Join) (things : Numbering) (base : List ℕ) (m : GroundModule) : Type 0 where
-  pub declared : AreThings join things.things
-  pub named : length things.names ≡ join.atoms
-  pub grown : base ≡ things.names ++ m.names
+-- The solver fits the join, and hasn't taken the module.
+pub record IsGrownOver (join : Join) (solver : Watcher) (base : List ℕ) (m : GroundModule) : Type 0 where
+  pub fit : IsFit solver join
+  pub grown : base ≡ solver.knows.numbering.names ++ m.names
 
 -- each atom of the reason is one of so many
 abbrev pub AreAtomsOf : ℕ → JoinFault → Type 0
@@ -64,14 +62,13 @@ JoinsAs table mark m base join new_base new_join (Refused refusal) =
     RefusesAs (map (term_at table) base) join m refusal × (new_base ≡ take mark base) × (new_join ≡ join)
 JoinsAs table mark m base join new_base new_join reply = ⊥
 
--- The notes declare what the new join has of things beyond the old ones, or the module was refused and there are none.
-abbrev pub DeclaresAs : List Tree → List ℕ → Join → Numbering → Numbering → List Note → Reply → Type 0
-DeclaresAs table base new_join things new_things notes (Grounded atoms rules) =
-    LogsThings new_join (map (term_at table) base) things.things notes new_things.things × (new_things.names ≡ base)
-DeclaresAs table base new_join things new_things notes (Refused refusal) = (notes ≡ []) × (new_things ≡ things)
-DeclaresAs table base new_join things new_things notes reply = ⊥
+-- The solver took the module and the notes declare what is new, or the module was refused and there are none.
+abbrev pub DeclaresAs : List Tree → List ℕ → Join → Watcher → Watcher → List Note → Reply → Type 0
+DeclaresAs table base new_join solver new_solver notes (Grounded atoms rules) = DeclaresNew table base new_join solver new_solver notes
+DeclaresAs table base new_join solver new_solver notes (Refused refusal) = (notes ≡ []) × (new_solver ≡ solver)
+DeclaresAs table base new_join solver new_solver notes reply = ⊥
 
--- where the reply is a refusal, the base, the join and the things are as before, and there are no lines of the log
+-- where the reply is a refusal, the base, the join and the solver are as before, and there are no lines of the log
 abbrev pub StaysWhereRefused : Open → Open → Reply → Type 0
-StaysWhereRefused old new (Refused refusal) = (new.base ≡ old.base) × (new.join ≡ old.join) × (new.things ≡ old.things) × (new.notes ≡ [])
+StaysWhereRefused old new (Refused refusal) = (new.base ≡ old.base) × (new.join ≡ old.join) × (new.solver ≡ old.solver) × (new.notes ≡ [])
 StaysWhereRefused old new reply = ⊤

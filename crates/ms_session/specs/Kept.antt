@@ -1,6 +1,5 @@
 -- What a session keeps, and what its calls do.
-use Rattle.std.specs.Prelude.{ℕ, ◌≡◌, ◌<◌, ◌≤◌, Bool, true, false, List, [], Option, Some, All, Contains, MatchOption, length, map, slice_get, ⊤}
-use Rattle.ms_base.specs.Limits.{most_things}
+use Rattle.std.specs.Prelude.{ℕ, ◌≡◌, ◌<◌, Bool, true, false, List, [], Option, Some, All, Contains, MatchOption, length, map, slice_get, ⊤}
 use Rattle.ms_tree.specs.Tree.{Tree}
 use Rattle.ms_term.specs.Terms.{term_at}
 use Rattle.ms_grammar.specs.declared.value.Value.{Value}
@@ -11,9 +10,8 @@ use Rattle.ms_base.specs.declared.truth.Effect.{Effect}
 use Rattle.ms_base.specs.declared.truth.Effect.TheVariants.{Done, NoEffect}
 use Rattle.ms_join.specs.Modules.{Join, IsInput, IsAssigned, IsReleased, value_of}
 use Rattle.ms_join.specs.Things.{Thing}
+use Rattle.ms_lits.specs.Literals.{Nogood}
 use Rattle.ms_lits.specs.declared.note.Note.{Note}
-use Rattle.ms_things.specs.Numbers.{AreThings}
-use Rattle.ms_complete.specs.Numbering.{Numbering}
 use Rattle.ms_value.specs.Naming.{Keeps}
 use Rattle.ms_machine.specs.declared.reply.Reply.{Reply as kept_reply}
 use Rattle.ms_machine.specs.declared.reply.Reply.TheVariants.{Solved}
@@ -21,8 +19,8 @@ use Rattle.ms_machine.specs.Machine.{State, Step}
 use Rattle.ms_machine.specs.Replies.{said_by}
 
 -- A session has met want of memory or hasn't. It keeps a table of terms by their names, the accepted texts, the names of
--- the atoms of the base by their numbers, the join, the things that the log has declared, and the lines of the log that the
--- last command gave.
+-- the atoms of the base by their numbers, the join, the things that the log has declared, the nogoods that are kept from
+-- solve to solve, and the lines of the log that the last command gave.
 pub record Kept : Type 0 where
   pub sealed : Bool
   pub table : List Tree
@@ -30,24 +28,16 @@ pub record Kept : Type 0 where
   pub base : List ℕ
   pub join : Join
   pub things : List Thing
+  pub kept : List Nogood
   pub notes : List Note
 
 -- the state of the machine, where these are the terms by their names
-abbrev pub state_by : List Tree → Texts → List ℕ → Join → List Thing → State
-state_by table texts base join things = record { texts = texts; names = map (term_at table) base; join = join; things = things; kept = [] }
+abbrev pub state_by : List Tree → Texts → List ℕ → Join → List Thing → List Nogood → State
+state_by table texts base join things kept = record { texts = texts; names = map (term_at table) base; join = join; things = things; kept = kept }
 
 -- the state of the machine that the session stands for
 abbrev pub state_of : Kept → State
-state_of k = state_by k.table k.texts k.base k.join k.things
-
--- What a session keeps true until it is sealed: each atom of the base has a name of the table, the join has the atoms of the
--- base, and the numbered things are those of the join, with the names of the base.
-pub record IsSound (table : List Tree) (base : List ℕ) (join : Join) (numbering : Numbering) : Type 0 where
-  pub named : All (λ t. t < length table) base
-  pub counted : length base ≡ join.atoms
-  pub few : join.atoms ≤ most_things
-  pub declared : AreThings join numbering.things
-  pub names : numbering.names ≡ base
+state_of k = state_by k.table k.texts k.base k.join k.things k.kept
 
 -- each name in the reply is one of a table of so many terms
 abbrev pub IsNamed : ℕ → kept_reply → Type 0

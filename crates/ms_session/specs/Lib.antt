@@ -1,5 +1,6 @@
 pub mod ReadText
 pub mod Declaring
+pub mod Fitting
 pub mod Kept
 pub mod Naming
 pub mod Steps

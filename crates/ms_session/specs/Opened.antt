@@ -8,7 +8,8 @@ use Rattle.ms_machine.specs.declared.reply.Reply.{Reply}
 use Rattle.ms_machine.specs.Machine.{Answers, Logs, State}
 use Rattle.ms_machine.specs.Replies.{said_by}
 use Rattle.ms_session.specs.declared.open_session.Open.{Open}
-use Rattle.ms_session.specs.Kept.{IsNamed, IsSound, state_by}
+use Rattle.ms_session.specs.Fitting.{IsSound, state_at}
+use Rattle.ms_session.specs.Kept.{IsNamed}
 
 -- the terms of the atoms of its base by their numbers
 abbrev pub names_of : Open → List Tree
@@ -16,11 +17,11 @@ names_of o = map (term_at o.terms) o.base
 
 -- the state of the machine that an open session stands for
 abbrev pub state_in : Open → State
-state_in o = state_by o.terms o.parts o.base o.join o.things.things
+state_in o = state_at o.terms o.parts o.base o.join o.solver
 
 -- what an open session keeps true
 abbrev pub IsWhole : Open → Type 0
-IsWhole o = IsSound o.terms o.base o.join o.things
+IsWhole o = IsSound o.terms o.base o.join o.solver
 
 -- It is whole, and no lines of the log stand from the command before.
 pub record IsReady (o : Open) : Type 0 where

@@ -62,21 +62,21 @@ impl Open {
         ground_module: &GroundModule,
     ) -> Result<Reply, OutOfMemory>
         requires base { IsGrownBase self.old.terms mark self.old.base self.old.join ground_module.now }
-        requires things { IsGrownOver self.old.join self.old.things self.old.base ground_module.now }
+        requires solver { IsGrownOver self.old.join self.old.solver self.old.base ground_module.now }
         requires silent { self.old.notes ≡ [] }
         ensures joins { IfOk result (JoinsAs self.old.terms mark ground_module.now
             self.old.base self.old.join self.new.base self.new.join) }
         ensures declares { IfOk result (DeclaresAs self.old.terms self.old.base self.new.join
-            self.old.things self.new.things self.new.notes) }
-        ensures rest { self.new ≡ record self.old { base = self.new.base; join = self.new.join; things = self.new.things; notes = self.new.notes } }
+            self.old.solver self.new.solver self.new.notes) }
+        ensures rest { self.new ≡ record self.old { base = self.new.base; join = self.new.join; solver = self.new.solver; notes = self.new.notes } }
     {
-        // The join says that its rules are over its base.
-        let _ = self.join.rules();
         match self.join.check(&self.terms, &self.base, ground_module) {
             Ok(()) => {
                 let atoms = ground_module.names.len() as u64;
                 let rules = ground_module.rules.len() as u64;
                 self.join.join(ground_module)?;
+                // The join says that it is one still.
+                let _ = self.join.rules();
                 self.notes = self.solver.extend(&self.terms, ground_module)?;
                 Ok(Reply::Grounded { atoms, rules })
             }

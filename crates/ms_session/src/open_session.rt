@@ -7,6 +7,7 @@ ghost use Rattle.ms_module.specs.Inputs.{Assigns, Releases};
 ghost use Rattle.ms_machine.specs.Machine.{start};
 ghost use Rattle.ms_machine.specs.Replies.{reply_text, said_by};
 ghost use Rattle.ms_session.specs.Kept.{IsNamed};
+ghost use Rattle.ms_session.specs.Fitting.{IsToldAlike};
 ghost use Rattle.ms_session.specs.Opened.{IsReady, IsStep, IsWhole, state_in};
 
 use crate::adding::add_text;
@@ -22,7 +23,7 @@ use ms_lits::Notes;
 use ms_machine::reply::Reply;
 use ms_module::Join;
 use ms_parts::Parts;
-use ms_solver::Solver;
+use ms_solver::{Solver, assigned_is_served};
 use ms_term::Terms;
 use std::alloc::Global;
 
@@ -76,7 +77,11 @@ impl Open {
         ensures whole { IsWhole self.new }
         ensures rest { self.new ≡ record self.old { join = self.new.join } }
     {
-        self.join.assign(a, truth)
+        assigned_is_served();
+        let effect = self.join.assign(a, truth);
+        // The join says that it is one still.
+        let _ = self.join.rules();
+        effect
     }
 
     /// Makes an input false for good, which has no effect exactly where the atom is no input. It takes no memory.
@@ -84,13 +89,19 @@ impl Open {
         requires { IsWhole self.old }
         ensures releases { Releases self.old.join a self.new.join result }
         ensures whole { IsWhole self.new }
-        ensures rest { self.new ≡ record self.old { join = self.new.join } }
+        ensures told { IsToldAlike self.old.solver self.new.solver }
+        ensures rest { self.new ≡ record self.old { join = self.new.join; solver = self.new.solver } }
     {
         let effect = self.join.release(a);
-        if effect == Effect::Done {
-            self.solver.release(a);
+        // The join says that it is one still.
+        let _ = self.join.rules();
+        match effect {
+            Effect::Done => {
+                self.solver.release(a);
+                Effect::Done
+            }
+            Effect::NoEffect => Effect::NoEffect,
         }
-        effect
     }
 
     /// One step of the machine.

@@ -1,5 +1,5 @@
 // The texts of replies.
-ghost use Rattle.std.specs.Prelude.{◌≡◌, ◌++◌, ◌∷◌, ◌<◌, All, codes, OnOk, OnErr, length};
+ghost use Rattle.std.specs.Prelude.{◌≡◌, ◌++◌, ◌∷◌, ◌<◌, All, codes, IfOk, OnOk, OnErr, length};
 ghost use Rattle.std.specs.Fmt.{decimal};
 ghost use Rattle.ms_machine.specs.Replies.{ending_text, line, refusal_line, reply_text, said_by};
 ghost use Rattle.ms_machine.specs.declared.reply.Reply.TheVariants.{Solved};

@@ -36,6 +36,7 @@ impl Model for Session {
     ghost use Rattle.ms_term.specs.TreeCode.{tree_code};
     ghost use Rattle.ms_grammar.specs.contracts.term.TextTerm as term;
     ghost use Rattle.ms_grammar.specs.contracts.value.Value as value;
+    ghost use Rattle.ms_solver.specs.States.{kept_of};
     ghost use Rattle.ms_session.specs.Kept.{Kept};
     ghost use Rattle.ms_session.specs.Opened.{IsWhole};
 
@@ -43,7 +44,7 @@ impl Model for Session {
 
     ghost coded = { Prim.hlevel (codes, tree_code, term.the_row.coded, value.the_row.coded) };
 
-    ghost view = { λ s. record { sealed = s.sealed; table = s.open.terms; texts = s.open.parts; base = s.open.base; join = s.open.join; solver = s.open.solver; notes = s.open.notes } };
+    ghost view = { λ s. record { sealed = s.sealed; table = s.open.terms; texts = s.open.parts; base = s.open.base; join = s.open.join; things = s.open.solver.knows.numbering.things; kept = kept_of s.open.solver.knows; notes = s.open.notes } };
 
     ghost invariant = { λ s. s.sealed ≡ false → IsWhole s.open };
 }
@@ -162,8 +163,8 @@ impl Session {
         seal_on_failure(&mut self.sealed, reply)
     }
 
-    /// Lists as many answer sets as are asked for, at least one, or all that there are. A base of more than 20
-    /// atoms is refused.
+    /// Lists as many answer sets as are asked for, at least one, or all that there are, or fewer where as many nogoods
+    /// were learned as the limit allows.
     pub fn solve(
         &mut self,
         alloc: Global,

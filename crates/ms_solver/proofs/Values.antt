@@ -1,7 +1,7 @@
 -- An answer set under the values of inputs is a possible set that has them.
 use Rattle.std.proofs.Common.{◌≡◌, ◌≢◌, ◌∙◌, ◌⊎◌, ◌<◌, ℕ, Bool, true, false, not, ◌&&◌, eqb, List, [], ◌∷◌, Option, Some, None, get_or, length, refl, sym, subst, ap, inl, inr, arith}
-use Rattle.std.specs.Prelude.{◌↔◌, IfSome, IsTrue}
-use Rattle.std.specs.List.{All, AllPairs, Contains, list_all}
+use Rattle.std.specs.Prelude.{IfSome, IsTrue}
+use Rattle.std.specs.List.{All, AllPairs, list_all}
 use Rattle.std.proofs.lemmas.Bool.{and_from, and_parts, cases_Bool, cases_eq, cases_lt, eq-eqb, false≢true, ne_eqb, not_from_false, not_from_true}
 use Rattle.std.proofs.lemmas.List.{get_or_default}
 use Rattle.std.proofs.lemmas.List.Elements.{All-map, Contains-get_or}
@@ -9,7 +9,7 @@ use Rattle.ms_join.specs.declared.ground_rule.GroundKind.{GroundKind}
 use Rattle.ms_join.specs.declared.ground_rule.GroundKind.TheVariants.{Normal, Choice, Constraint}
 use Rattle.ms_join.specs.declared.ground_rule.GroundRule.{GroundRule}
 use Rattle.ms_join.specs.declared.ground_rule.Input.{Input}
-use Rattle.ms_join.specs.AnswerSets.{has_all, side_holds, IsAnswerSet, IsReductModel, Keeps, KeepsInput}
+use Rattle.ms_join.specs.AnswerSets.{has_all, side_holds, IsAnswerSet, Keeps, KeepsInput}
 use Rattle.ms_join.specs.Modules.{Join, IsInput, IsJoin, rules_of}
 use Rattle.ms_join.specs.Possible.{IsPossible, freed}
 use Rattle.ms_possible.proofs.FreeSets.{answer_is_possible}

@@ -1,11 +1,10 @@
-use Rattle.std.proofs.Common.{◌≡◌, true, get_or, sym, subst, eqb-true}
+use Rattle.std.proofs.Common.{◌≡◌, List, true, eqb-true, subst, sym}
+use Rattle.std.specs.Prelude.{◌↔◌}
 use Rattle.std.specs.Cmp.{booleans_Decides, first_so, second_so}
-use Rattle.std.specs.List.{All, dedup}
-use Rattle.std.proofs.lemmas.List.Filters.{All-dedup, dedup_is}
-use Rattle.std.proofs.lemmas.List.Elements.{All-contains, Contains-get_or}
-use Rattle.std.proofs.lemmas.List.Kept.{Contains-dedup}
-use Rattle.std.proofs.lemmas.List.Sorted.{All-permutation, IsPermutation-sym}
-use Rattle.ms_join.specs.AnswerSets.{set_of}
+use Rattle.std.specs.List.{Contains}
+use Rattle.std.proofs.lemmas.List.Filters.{dedup_is}
+use Rattle.std.proofs.lemmas.List.Kept.{Contains-dedup, Contains-from_dedup}
+use Rattle.std.proofs.lemmas.List.Sorted.{Contains-permutation, IsPermutation-sym}
 use Rattle.ms_join.specs.declared.assumption.AtomLit.{AtomLit}
 use Rattle.ms_join.specs.contracts.assumption.AtomLitPartialEq.TheImpl as derived
 use Rattle.ms_join.specs.contracts.assumption.AtomLitEq.TheImpl.Laws.{laws-law}
@@ -18,14 +17,12 @@ same_lit x y alike =
     λ i. record { atom = atom i; truth = truth i }
 
 pub returns : goal.returns
-returns c = λ set.
-    let Met : AtomLit → Type 0 = λ s. set_of set s.atom ≡ s.truth in
-    let moved = c.sort_unstable.ensures.permutation in
+returns c =
+    let old = c.args.lits.now.items in
     let sorted = c.sort_unstable.new.self.items in
-    let is = dedup_is _ _ _ c.dedup.ensures.filtered in (
-      λ met.
-          let once : All Met (dedup (derived.ghosts).eq sorted) = subst (All Met) is met in
-          All-permutation Met sorted c.args.lits.items (IsPermutation-sym _ _ moved)
-          (λ k d within. All-contains Met (dedup (derived.ghosts).eq sorted) (get_or sorted k d) once (Contains-dedup laws-law same_lit sorted (get_or sorted k d) (Contains-get_or sorted k d within))),
-      λ met. subst (All Met) (sym is) (All-dedup (derived.ghosts).eq Met sorted (All-permutation Met c.args.lits.items sorted moved met)),
-    )
+    let moved = c.sort_unstable.ensures.permutation in
+    subst (λ (lits : List AtomLit). (l : AtomLit) → Contains lits l ↔ Contains old l) (sym (dedup_is _ _ _ c.dedup.ensures.filtered))
+    (λ l. (
+      λ has. Contains-permutation sorted old l (IsPermutation-sym old sorted moved) (Contains-from_dedup (derived.ghosts).eq sorted l has),
+      λ has. Contains-dedup laws-law same_lit sorted l (Contains-permutation old sorted l moved has),
+    ))

@@ -9,13 +9,13 @@ use Rattle.ms_session.proofs.open_session.Open.ground_and_join.Goals as goal
 pub join_module-requires-clause-base : goal.join_module-requires-clause-base
 join_module-requires-clause-base c =
     let s = c.args.self.now in
-    grown_base (core_of_calls s.parts c.args.calls.now) s.terms c.ground.new.terms s.base c.ground.new.base s.join s.things
+    grown_base (core_of_calls s.parts c.args.calls.now) s.terms c.ground.new.terms s.base c.ground.new.base s.join s.solver
     c.in-Ok.ground_module c.mark-mark.result c.requires.whole c.mark-mark.ensures c.in-Ok.ensures
 
-pub join_module-requires-clause-things : goal.join_module-requires-clause-things
-join_module-requires-clause-things c =
+pub join_module-requires-clause-solver : goal.join_module-requires-clause-solver
+join_module-requires-clause-solver c =
     let s = c.args.self.now in
-    grown_over (core_of_calls s.parts c.args.calls.now) s.terms c.ground.new.terms s.base c.ground.new.base s.join s.things
+    grown_over (core_of_calls s.parts c.args.calls.now) s.terms c.ground.new.terms s.base c.ground.new.base s.join s.solver
     c.in-Ok.ground_module c.requires.whole c.in-Ok.ensures
 
 pub returns-in-Err-Later-clause-step : goal.returns-in-Err-Later-clause-step
@@ -32,7 +32,7 @@ returns-clause-step c =
     let n = c.join_module.new.self in
     both_weaker c.join_module.result _ _ _
     (λ reply h d. subst (λ (o : Open). IsStep s (Ground c.args.calls.now) o reply) (sym c.join_module.ensures.rest)
-    (joining_step c.args.calls.now s c.requires c.ground.new.terms c.ground.new.base n.base n.join n.things n.notes c.in-Ok.ground_module c.mark-mark.result reply
+    (joining_step c.args.calls.now s c.requires c.ground.new.terms c.ground.new.base n.base n.join n.solver n.notes c.in-Ok.ground_module c.mark-mark.result reply
     c.mark-mark.ensures c.in-Ok.ensures h d))
     c.join_module.ensures.joins c.join_module.ensures.declares
 

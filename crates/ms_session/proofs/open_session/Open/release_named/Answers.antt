@@ -6,10 +6,10 @@ returns-in_default c = unknown_released c.args.self.now c.args.atom.now c.in_ok-
 
 pub returns-in-Done : goal.returns-in-Done
 returns-in-Done c =
-    is_released c.args.self.now c.args.atom.now c.in_ok-a.field-0 c.requires c.in_ok-a.ensures c.release.new.self c.in-Some.a c.in-Some.is c.release.ensures.whole c.release.ensures.rest
+    is_released c.args.self.now c.args.atom.now c.in_ok-a.field-0 c.requires c.in_ok-a.ensures c.release.new.self c.in-Some.a c.in-Some.is c.release.ensures.whole c.release.ensures.told c.release.ensures.rest
     (rw c.in-Done.is at c.release.ensures.releases)
 
 pub returns-in-NoEffect : goal.returns-in-NoEffect
 returns-in-NoEffect c =
-    not_released c.args.self.now c.args.atom.now c.in_ok-a.field-0 c.requires c.in_ok-a.ensures c.release.new.self c.in-Some.a c.in-Some.is c.release.ensures.whole c.release.ensures.rest
+    not_released c.args.self.now c.args.atom.now c.in_ok-a.field-0 c.requires c.in_ok-a.ensures c.release.new.self c.in-Some.a c.in-Some.is c.release.ensures.whole c.release.ensures.told c.release.ensures.rest
     (rw c.in-NoEffect.is at c.release.ensures.releases)

@@ -1,31 +1,44 @@
-use Rattle.std.proofs.Common.{◌≤◌, List, length, sym, subst, arith}
-use Rattle.std.proofs.lemmas.Result.{IfOk-weaker}
+use Rattle.std.proofs.Common.{◌≡◌, ◌∙◌, ◌++◌, ℕ, List, [], ◌∷◌, All, ap, length, map, subst, sym}
 use Rattle.ms_call.specs.declared.command.Assumption.{Assumption}
-use Rattle.ms_join.specs.declared.assumption.AtomLit.{AtomLit}
-use Rattle.ms_session.specs.Assuming.{MeetSame, NoneMeets}
-use Rattle.ms_session.specs.Opened.{names_of}
-use Rattle.ms_session.proofs.Assumed.{lists_step, meet_alike, none_step}
+use Rattle.ms_call.specs.declared.command.Command.TheVariants.{Solve}
+use Rattle.ms_join.specs.Sets.{IsAtomSet}
+use Rattle.ms_lits.specs.declared.note.Note.TheVariants.{Finish}
+use Rattle.ms_machine.specs.declared.reply.Reply.TheVariants.{Solved}
+use Rattle.ms_machine.specs.Machine.{IsAskOf}
+use Rattle.ms_machine.specs.Replies.{ending_text}
+use Rattle.ms_solving.specs.Listing.{IsListing}
+use Rattle.ms_solving.specs.Showing.{shows_atom}
+use Rattle.ms_term.specs.Terms.{term_at}
+use Rattle.ms_session.specs.Assuming.{IsKnown}
+use Rattle.ms_session.specs.Opened.{IsStep, names_of, state_in}
+use Rattle.ms_session.proofs.Solved.{can_solve, sets_over_base, solve_step}
 use Rattle.ms_session.proofs.open_session.Open.solve.Goals as goal
 
-pub returns-in-Some-clause-step : goal.returns-in-Some-clause-step
-returns-in-Some-clause-step c =
-    let s = c.args.self.now in
-    let few : length s.base ≤ 20 = omega arith in
-    let names = names_of s in
-    let by_items = rw c.in-Some.is at c.in_ok-lits.ensures in
-    let same : MeetSame names c.args.assume.now c.as_slice-in-Some.result.now =
-    subst (λ (ls : List AtomLit). MeetSame names c.args.assume.now ls) (sym c.as_slice-in-Some.ensures.value)
-    (meet_alike names c.args.assume.now c.in-Some.lits.items c.each_once-lits.result.items c.each_once-lits.ensures
-    (subst (λ (assume : List Assumption). MeetSame names assume c.in-Some.lits.items) c.as_slice.ensures by_items)) in
-    IfOk-weaker c.list_answers.result _ _
-    (λ reply h. lists_step s.terms s.parts s.base s.join s.things c.args.assume.now c.as_slice-in-Some.result.now c.args.count c.args.limit reply few c.requires.whole same h)
-    c.list_answers.ensures.lists
+pub solve-requires-clause-join : goal.solve-requires-clause-join
+solve-requires-clause-join c =
+    can_solve c.args.self.now c.args.self.now.solver [] c.args.count c.args.limit c.as_slice.result.now c.in_ok-ask.ask c.requires.ready c.in_ok-ask.ensures.asks c.in_ok-ask.ensures.known c.values_are_assumed.ensures
 
-pub returns-in-None-clause-step : goal.returns-in-None-clause-step
-returns-in-None-clause-step c =
+pub listing-requires-clause-over_base : goal.listing-requires-clause-over_base
+listing-requires-clause-over_base c =
     let s = c.args.self.now in
-    let few : length s.base ≤ 20 = omega arith in
-    let names = names_of s in
-    let none = rw c.in-None.is at c.in_ok-lits.ensures in
-    none_step s.terms s.parts s.base s.join s.things c.args.assume.now c.args.count c.args.limit c.new.result
-    few c.requires.asked (subst (λ (assume : List Assumption). NoneMeets names assume) c.as_slice.ensures none) c.new.ensures
+    subst (λ (sets : List (List ℕ)). All (IsAtomSet (length s.base)) sets) (sym (c.as_slice-2.ensures ∙ c.in_ok-sets.ensures))
+    (sets_over_base s c.solve.new.self [] c.args.count c.args.limit c.as_slice.result.now c.in_ok-ask.ask c.requires.ready c.in_ok-ask.ensures.asks c.in_ok-ask.ensures.known c.values_are_assumed.ensures
+    c.in_ok-run.run' (c.in_ok-run.ensures.solves s.join c.requires.ready.whole.fit.serves))
+
+pub returns : goal.returns
+returns c =
+    let s = c.args.self.now in
+    let run = c.in_ok-run.run' in
+    let limit = c.args.limit in
+    let is : IsAskOf (state_in s) c.args.count limit c.args.assume.now c.in_ok-ask.ask =
+    subst (λ (assume : List Assumption). IsAskOf (state_in s) c.args.count limit assume c.in_ok-ask.ask) c.as_slice.ensures c.in_ok-ask.ensures.asks in
+    let known : All (IsKnown (names_of s)) c.args.assume.now = subst (λ (assume : List Assumption). All (IsKnown (names_of s)) assume) c.as_slice.ensures c.in_ok-ask.ensures.known in
+    let found : c.len-found.result ≡ length run.answers = c.len-found.ensures ∙ ap length c.in_ok-sets.ensures in
+    let log : c.push.new.self ≡ run.notes ++ Finish (ending_text run.ending (length run.answers) limit) ∷ [] =
+    c.in_ok-push.ensures.ok ∙ ap (λ (text : List ℕ). run.notes ++ Finish text ∷ []) (c.from_vec.ensures ∙ c.in_ok-ending.ensures ∙ ap (λ (n : ℕ). ending_text run.ending n limit) found) in
+    let listed : IsListing (shows_atom s.parts) (names_of s) run.answers (map (map (term_at s.terms)) c.in_ok-shown.shown) =
+    subst (λ (sets : List (List ℕ)). IsListing (shows_atom s.parts) (names_of s) sets (map (map (term_at s.terms)) c.in_ok-shown.shown)) (c.as_slice-2.ensures ∙ c.in_ok-sets.ensures) c.in_ok-shown.ensures.listing in
+    subst (λ (n : ℕ). IsStep s (Solve c.args.count limit c.args.assume.now) (record s { solver = c.solve.new.self; notes = c.push.new.self }) (Solved run.ending n limit c.in_ok-shown.shown)) (sym found)
+    (solve_step s c.solve.new.self c.push.new.self c.args.count limit c.args.assume.now c.in_ok-ask.ask c.requires.ready is known c.values_are_assumed.ensures
+    run (c.in_ok-run.ensures.solves s.join c.requires.ready.whole.fit.serves) c.in_ok-shown.shown listed log
+    c.in_ok-run.ensures.attached c.in_ok-run.ensures.in_step c.in_ok-shown.ensures.named)
