@@ -1,5 +1,5 @@
 -- What the part of a solve says of the sets that are possible.
-use Rattle.std.proofs.Common.{◌≡◌, ◌≢◌, ◌∙◌, ℕ, ◌+◌, ◌<◌, ◌≤◌, ◌-◌, ◌^◌, Bool, true, false, not, if◌then◌else◌, List, [], ◌∷◌, ◌++◌, Some, length, get_or, append-nil, refl, sym, ap, subst, inl, inr, arith}
+use Rattle.std.proofs.Common.{◌≡◌, ◌≢◌, ◌∙◌, ◌⊎◌, ℕ, ◌+◌, ◌<◌, ◌≤◌, ◌-◌, ◌^◌, Bool, true, false, not, if◌then◌else◌, List, [], ◌∷◌, ◌++◌, Option, Some, None, length, get_or, append-nil, refl, sym, ap, subst, inl, inr, arith}
 use Rattle.std.specs.Prelude.{IsTrue, slice_get}
 use Rattle.std.specs.List.{All, AllPairs, Contains}
 use Rattle.std.proofs.lemmas.Bool.{cases_order, false≢true}
@@ -21,21 +21,22 @@ use Rattle.ms_things.specs.Completion.{IsCompletionNogood}
 use Rattle.ms_things.specs.Numbers.{ext}
 use Rattle.ms_things.specs.Signs.{IsContainedIn}
 use Rattle.ms_loops.specs.Laws.{NogoodsAreConsequences}
-use Rattle.ms_lawful.specs.Lines.{AreLines, InFullStore, IsInOrder, answer_of, answers_in, first_stage, is_learned, kept_now, learned_in, nogood_of, nogoods_in, of_answer, of_completion, of_theory, kept_before, standing, stored, temporary}
+use Rattle.ms_lawful.specs.Lines.{AreLines, InFullStore, IsInOrder, Stage, Stands, after, answer_of, answers_in, first_stage, is_learned, kept_now, learned_in, nogood_of, nogoods_in, of_answer, of_completion, of_theory, owed_after, kept_before, stage_after, standing, stored, temporary}
 use Rattle.ms_lawful.specs.Parts.{kept_in, last_of, most_kept}
 use Rattle.ms_lawful.specs.Problems.{HasNogood, HasNoKept, IsAdmitted, Problem, holds_under}
-use Rattle.ms_lawful.proofs.Apart.{lines_apart}
+use Rattle.ms_lawful.proofs.Apart.{lines_apart, nogoods_stand}
 use Rattle.ms_lawful.proofs.Counts.{cut_spent, learned_count, lines_few, spent_within}
 use Rattle.ms_lawful.proofs.Listed.{temporary_answered}
 use Rattle.ms_lawful.proofs.Lists.{Contains-cons, filter_map-Contains}
+use Rattle.ms_lawful.proofs.Newness.{HasNewLiteral, learned_new}
 use Rattle.ms_lawful.proofs.Parts.{kept_from, kept_in_part}
 use Rattle.ms_lawful.proofs.Soundness.{store_sound, temporary_rests}
 use Rattle.ms_lawful.proofs.Stages.{lines_after}
 use Rattle.ms_problem.specs.Numbered.{AreNumbers}
 use Rattle.ms_problem.specs.Solves.{problem_of}
 use Rattle.ms_machine.specs.Machine.{State, LogsSolve}
-use Rattle.ms_learned.specs.Learned.{IsAtHand, IsLasting, IsRefutedByLog, answer_by}
-use Rattle.ms_learned.specs.Learned.IsAtHand.{of_program, of_kept, of_line, of_listed}
+use Rattle.ms_learned.specs.Learned.{BringsNew, IsAtHand, IsLasting, IsLearnedLine, IsRefutedByLog, IsStanding, answer_by}
+use Rattle.ms_learned.specs.Learned.IsAtHand.{of_standing, of_listed}
 
 -- ---- literals and truths
 
@@ -81,30 +82,65 @@ same_numbers things count numbers others once are also = ext_get_or 0 numbers ot
 
 -- ---- the frame of a part
 
--- The first line of a part isn't temporary.
-behind_first : (impossible : Bool) (start : List Lit) (lines before rest : List Note) (nogood : Nogood) → Start impossible start ∷ lines ≡ before ++ Temporary nogood ∷ rest
-    → (front : List Note) × (before ≡ Start impossible start ∷ front) × (lines ≡ front ++ Temporary nogood ∷ rest)
-behind_first impossible start lines [] rest nogood is = cc
-behind_first impossible start lines (note ∷ front) rest nogood is =
+-- Another line comes behind the first one.
+behind_first : (impossible : Bool) (start : List Lit) (lines before rest : List Note) (line : Note) → (Start impossible start ≡ line → ⊥) → Start impossible start ∷ lines ≡ before ++ line ∷ rest
+    → (front : List Note) × (before ≡ Start impossible start ∷ front) × (lines ≡ front ++ line ∷ rest)
+behind_first impossible start lines [] rest line other is = let same : Start impossible start ≡ line = cc in absurd (other same)
+behind_first impossible start lines (note ∷ front) rest line other is =
     let first : Start impossible start ≡ note = cc in
-    let others : lines ≡ front ++ Temporary nogood ∷ rest = cc in
+    let others : lines ≡ front ++ line ∷ rest = cc in
     (front, ap (λ n. n ∷ front) (sym first), others)
 
 not_empty : (front rest : List Note) (note : Note) → [] ≡ front ++ note ∷ rest → ⊥
 not_empty [] rest note is = cc
 not_empty (first ∷ front) rest note is = cc
 
--- Nor is the last one.
-before_last : (reply : List ℕ) (lines front rest : List Note) (nogood : Nogood) → lines ++ Finish reply ∷ [] ≡ front ++ Temporary nogood ∷ rest
-    → (later : List Note) × (lines ≡ front ++ Temporary nogood ∷ later)
-before_last reply [] [] rest nogood is = cc
-before_last reply [] (first ∷ front) rest nogood is = let others : [] ≡ front ++ Temporary nogood ∷ rest = cc in absurd (not_empty front rest (Temporary nogood) others)
-before_last reply (line ∷ lines) [] rest nogood is = let same : line ≡ Temporary nogood = cc in (lines, ap (λ n. n ∷ lines) same)
-before_last reply (line ∷ lines) (first ∷ front) rest nogood is =
-    let same : line ≡ first = cc in
-    let others : lines ++ Finish reply ∷ [] ≡ front ++ Temporary nogood ∷ rest = cc in
-    let later = before_last reply lines front rest nogood others in
+-- And before the last one.
+before_last : (reply : List ℕ) (lines front rest : List Note) (line : Note) → (Finish reply ≡ line → ⊥) → lines ++ Finish reply ∷ [] ≡ front ++ line ∷ rest
+    → (later : List Note) × (lines ≡ front ++ line ∷ later)
+before_last reply [] [] rest line other is = let same : Finish reply ≡ line = cc in absurd (other same)
+before_last reply [] (first ∷ front) rest line other is = let others : [] ≡ front ++ line ∷ rest = cc in absurd (not_empty front rest line others)
+before_last reply (note ∷ lines) [] rest line other is = let same : note ≡ line = cc in (lines, ap (λ n. n ∷ lines) same)
+before_last reply (note ∷ lines) (first ∷ front) rest line other is =
+    let same : note ≡ first = cc in
+    let others : lines ++ Finish reply ∷ [] ≡ front ++ line ∷ rest = cc in
+    let later = before_last reply lines front rest line other others in
     (later.0, ap (λ n. n ∷ lines) same ∙ ap (λ ls. first ∷ ls) later.1)
+
+-- a line with a learned nogood is neither the first nor the last
+abbrev IsOwnOrKept : Note → Nogood → Type 0
+IsOwnOrKept line nogood = (line ≡ Kept nogood) ⊎ (line ≡ Temporary nogood)
+
+not_start : (impossible : Bool) (start : List Lit) (line : Note) (nogood : Nogood) → IsOwnOrKept line nogood → Start impossible start ≡ line → ⊥
+not_start impossible start line nogood (inl is) same = cc
+not_start impossible start line nogood (inr is) same = cc
+
+not_finish : (reply : List ℕ) (line : Note) (nogood : Nogood) → IsOwnOrKept line nogood → Finish reply ≡ line → ⊥
+not_finish reply line nogood (inl is) same = cc
+not_finish reply line nogood (inr is) same = cc
+
+-- Where a line is owed the last one was an answer.
+owed_last : (stage : Stage) (notes : List Note) (answer : List ℕ) → (stage_after stage notes).owed ≡ Some answer
+    → ((notes ≡ []) × (stage.owed ≡ Some answer)) ⊎ ((earlier : List Note) × (notes ≡ earlier ++ Answer answer ∷ []))
+owed_last stage [] answer owed = inl (refl, owed)
+owed_last stage (note ∷ notes) answer owed = elim (owed_last (after stage note) notes answer owed) [
+  | inl first ↦ inr ([], (ap (λ ns. note ∷ ns) first.0 ∙ ap (λ n. n ∷ []) (answering note first.1)))
+  | inr later ↦ inr (note ∷ later.0, ap (λ ns. note ∷ ns) later.1)
+]
+  where
+    answering : (line : Note) → owed_after line ≡ Some answer → line ≡ Answer answer
+    answering (Answer a) is = let same : a ≡ answer = cc in ap Answer same
+    answering line is = let clash : ⊥ = cc in absurd clash
+
+none_owed : (notes : List Note) → ((earlier : List Note) (answer : List ℕ) → notes ≡ earlier ++ Answer answer ∷ [] → ⊥) → (stage_after first_stage notes).owed ≡ None
+none_owed notes none = by (stage_after first_stage notes).owed refl
+  where
+    by : (owed : Option (List ℕ)) → (stage_after first_stage notes).owed ≡ owed → (stage_after first_stage notes).owed ≡ None
+    by None is = is
+    by (Some answer) is = elim (owed_last first_stage notes answer is) [
+      | inl first ↦ let nothing = first.1 in let clash : ⊥ = cc in absurd clash
+      | inr last ↦ absurd (none last.0 answer last.1)
+    ]
 
 nogoods_in_part : (impossible : Bool) (start : List Lit) (lines : List Note) (reply : List ℕ) → nogoods_in (Start impossible start ∷ lines ++ Finish reply ∷ []) ≡ nogoods_in lines
 nogoods_in_part impossible start lines reply = filter_map-append nogood_of lines (Finish reply ∷ []) ∙ append-nil (nogoods_in lines)
@@ -137,6 +173,19 @@ module _ (old new : State) (asked limit : ℕ) (assume : List Assumption) (endin
   line_in_log : (note : Note) (nogood : Nogood) → nogood_of note ≡ Some nogood → Contains lines note → Contains (nogoods_in log) nogood
   line_in_log note nogood has among = filter_map-Contains nogood_of note nogood log (in_log note among) has
 
+  -- where a line stands among those between the first and the last
+  record IsWithin (before : List Note) (line : Note) : Type 0 where
+    front : List Note
+    later : List Note
+    first : before ≡ Start is.ask.impossible is.start ∷ front
+    whole : lines ≡ front ++ line ∷ later
+
+  within_part : (before rest : List Note) (line : Note) (nogood : Nogood) → IsOwnOrKept line nogood → log ≡ before ++ line ∷ rest → IsWithin before line
+  within_part before rest line nogood learned split =
+      let (front, first, behind) = behind_first is.ask.impossible is.start (lines ++ Finish _ ∷ []) before rest line (not_start is.ask.impossible is.start line nogood learned) (sym is.part.whole ∙ split) in
+      let (later, whole) = before_last _ lines front rest line (not_finish _ line nogood learned) behind in
+      record { front = front; later = later; first = first; whole = whole }
+
   -- no line contains what was kept
   pub apart : (nogood : Nogood) → Contains (last_of most_kept old.kept) nogood → All (λ line. (line ≢ nogood) × ¬ IsContained line nogood) (nogoods_in log)
   apart nogood among =
@@ -148,11 +197,11 @@ module _ (old new : State) (asked limit : ℕ) (assume : List Assumption) (endin
 
   -- what the log gives of answers and nogoods is at hand
   at_hand : (nogood : Nogood) → InFullStore problem lines nogood → IsAtHand old is.numbers log nogood
-  at_hand nogood (standing (stored (of_completion base))) = of_program base
-  at_hand nogood (standing (stored (kept_before among))) = of_kept among
-  at_hand nogood (standing (stored (of_theory among))) = of_line (line_in_log (Theory nogood) nogood refl among)
-  at_hand nogood (standing (stored (kept_now among))) = of_line (line_in_log (Kept nogood) nogood refl among)
-  at_hand nogood (standing (temporary among)) = of_line (line_in_log (Temporary nogood) nogood refl among)
+  at_hand nogood (standing (stored (of_completion base))) = of_standing (inl base)
+  at_hand nogood (standing (stored (kept_before among))) = of_standing (inr (inl among))
+  at_hand nogood (standing (stored (of_theory among))) = of_standing (inr (inr (line_in_log (Theory nogood) nogood refl among)))
+  at_hand nogood (standing (stored (kept_now among))) = of_standing (inr (inr (line_in_log (Kept nogood) nogood refl among)))
+  at_hand nogood (standing (temporary among)) = of_standing (inr (inr (line_in_log (Temporary nogood) nogood refl among)))
   at_hand nogood (of_answer answer) = of_listed answer.truth (in_log (Answer (answer_by answer.truth is.numbers)) answer.answered) answer.signs
 
   refuted_here : IsRefuted (InFullStore problem lines) is.start → IsRefuted (IsAtHand old is.numbers log) is.start
@@ -178,16 +227,45 @@ module _ (old new : State) (asked limit : ℕ) (assume : List Assumption) (endin
     -- an earlier answer has the true atoms of a set that contains what is temporary
     pub answered : (before rest : List Note) (nogood : Nogood) → log ≡ before ++ Temporary nogood ∷ rest → IsContainedIn truth nogood → Contains before (Answer (answer_by truth is.numbers))
     answered before rest nogood split contained =
-        let (front, first, behind) = behind_first is.ask.impossible is.start (lines ++ Finish _ ∷ []) before rest nogood (sym is.part.whole ∙ split) in
-        let (later, whole) = before_last _ lines front rest nogood behind in
-        let has = temporary_rests problem front later truth nogood (subst (AreLines problem first_stage) whole is.part.lawful) admitted none_kept (has_from truth nogood contained) in
-        subst (λ (notes : List Note). Contains notes (Answer (answer_by truth is.numbers))) (sym first) (Contains-cons _ (Answer (answer_by truth is.numbers)) front has)
+        let at = within_part before rest (Temporary nogood) nogood (inr refl) split in
+        let has = temporary_rests problem at.front at.later truth nogood (subst (AreLines problem first_stage) at.whole is.part.lawful) admitted none_kept (has_from truth nogood contained) in
+        subst (λ (notes : List Note). Contains notes (Answer (answer_by truth is.numbers))) (sym at.first) (Contains-cons _ (Answer (answer_by truth is.numbers)) at.front has)
 
   pub follows_answer : (before rest : List Note) (nogood : Nogood) → log ≡ before ++ Temporary nogood ∷ rest → answers_in before ≢ []
   follows_answer before rest nogood split none =
-      let (front, first, behind) = behind_first is.ask.impossible is.start (lines ++ Finish _ ∷ []) before rest nogood (sym is.part.whole ∙ split) in
-      let (later, whole) = before_last _ lines front rest nogood behind in
-      temporary_answered problem front later nogood (subst (AreLines problem first_stage) whole is.part.lawful) (ap answers_in (sym first) ∙ none)
+      let at = within_part before rest (Temporary nogood) nogood (inr refl) split in
+      temporary_answered problem at.front at.later nogood (subst (AreLines problem first_stage) at.whole is.part.lawful) (ap answers_in (sym at.first) ∙ none)
+
+  standing_before : (front : List Note) (small : Nogood) → IsStanding old (Start is.ask.impossible is.start ∷ front) small → Stands problem front small
+  standing_before front small (inl base) = stored (of_completion base)
+  standing_before front small (inr (inl among)) = stored (kept_before among)
+  standing_before front small (inr (inr among)) = nogoods_stand problem front small among
+
+  new_by : (front : List Note) (nogood : Nogood) → HasNewLiteral (Stands problem front) nogood → BringsNew (IsStanding old (Start is.ask.impossible is.start ∷ front)) nogood
+  new_by front nogood (lit, contained, none) = record {
+    lit = lit;
+    contained = contained;
+    none_known = λ others each.
+        let both = none others each in (
+          (λ refuted. both.0 (more_refute (IsStanding old (Start is.ask.impossible is.start ∷ front)) (Stands problem front) others (standing_before front) refuted)),
+          (λ derived. both.1 (λ set whole closed. derived set whole (λ small among. closed small (standing_before front small among)))),
+        );
+  }
+
+  -- what is learned is new
+  pub brings_new : (before rest : List Note) (line : Note) (nogood : Nogood) → log ≡ before ++ line ∷ rest → IsLearnedLine before line nogood → BringsNew (IsStanding old before) nogood
+  brings_new before rest line nogood split learned =
+      let kind : IsOwnOrKept line nogood = elim learned [ inl kept ↦ inl kept | inr other ↦ inr other.0 ] in
+      let at = within_part before rest line nogood kind split in
+      let plain : (line ≡ Kept nogood) ⊎ ((line ≡ Temporary nogood) × ((stage_after first_stage at.front).owed ≡ None)) = elim learned [
+        | inl kept ↦ inl kept
+        | inr other ↦ inr (
+          other.0,
+          none_owed at.front (λ earlier answer ends. other.1 (Start is.ask.impossible is.start ∷ earlier) answer (at.first ∙ ap (λ ns. Start is.ask.impossible is.start ∷ ns) ends)),
+        )
+      ] in
+      subst (λ (notes : List Note). BringsNew (IsStanding old notes) nogood) (sym at.first)
+      (new_by at.front nogood (learned_new problem at.front at.later line nogood (subst (AreLines problem first_stage) at.whole is.part.lawful) plain))
 
   -- no line contains an earlier one
   pub none_earlier : AllPairs (λ nogood later. ¬ IsContained later nogood) (nogoods_in log)

@@ -35,9 +35,9 @@ use Rattle.ms_released.specs.Released.{IsReached}
 use Rattle.ms_released.proofs.Reaching.{orderly_reached}
 use Rattle.ms_released.proofs.Steps.{Grows, Stays, takes_changes}
 use Rattle.ms_growth.proofs.Running.{IsClosed, closed_after, closed_reached, closed_start, cut_after}
-use Rattle.ms_learned.specs.Learned.{IsAnswered, IsLasting, IsRefutedByLog, answer_by, log_of}
+use Rattle.ms_learned.specs.Learned.{BringsNew, IsAnswered, IsLasting, IsLearnedLine, IsRefutedByLog, IsStanding, answer_by, log_of}
 use Rattle.ms_learned.proofs.Cut.{ext_cut}
-use Rattle.ms_learned.proofs.Solved.{answered, apart, cut_has, follows_answer, kept_lasting, none_earlier, refuted_by_log, same_numbers}
+use Rattle.ms_learned.proofs.Solved.{answered, apart, brings_new, cut_has, follows_answer, kept_lasting, none_earlier, refuted_by_log, same_numbers}
 use Rattle.ms_learned.proofs.Listed.{listed, long_listing}
 use Rattle.ms_learned.proofs.Told.{Declaring, IsQuiet, Solving, Tells, solve_told, takes_told, told}
 
@@ -307,6 +307,12 @@ pub contain_no_earlier : (old new : State) (asked limit : ℕ) (assume : List As
 contain_no_earlier old new asked limit assume output step =
     let solve = solve_told old new asked limit assume output.reply output.log step.answers step.logs in
     none_earlier old new asked limit assume solve.ending solve.count solve.listing output.log solve.logs
+
+pub lines_are_new : (old new : State) (asked limit : ℕ) (assume : List Assumption) (output : Output) (before rest : List Note) (line : Note) (nogood : Nogood)
+    → Step old (Solve asked limit assume) output new → output.log ≡ before ++ line ∷ rest → IsLearnedLine before line nogood → BringsNew (IsStanding old before) nogood
+lines_are_new old new asked limit assume output before rest line nogood step =
+    let solve = solve_told old new asked limit assume output.reply output.log step.answers step.logs in
+    brings_new old new asked limit assume solve.ending solve.count solve.listing output.log solve.logs before rest line nogood
 
 cut_counted : (old new : State) (asked limit count most : ℕ) (assume : List Assumption) (listing : List (List Tree)) (log : List Note)
     → Answers old (Solve asked limit assume) (solved Cut count most listing) new → Logs old (Solve asked limit assume) (solved Cut count most listing) log new

@@ -23,7 +23,7 @@ use Rattle.ms_machine.specs.Machine.{State, Step}
 use Rattle.ms_machine.specs.Replies.{Output, solved}
 use Rattle.ms_machine.specs.Scripts.{Run}
 use Rattle.ms_released.specs.Released.{IsReached}
-use Rattle.ms_learned.specs.Learned.{IsAnswered, IsLasting, IsRefutedByLog, log_of}
+use Rattle.ms_learned.specs.Learned.{BringsNew, IsAnswered, IsLasting, IsLearnedLine, IsRefutedByLog, IsStanding, log_of}
 
 -- The things that the log has declared are those of the join.
 abbrev pub DeclaredAreThings : Type 0
@@ -88,6 +88,12 @@ LinesContainNoEarlier =
     (old new : State) (asked limit : ℕ) (assume : List Assumption) (output : Output) → Step old (Solve asked limit assume) output new
     → AllPairs (λ nogood later. ¬ IsContained later nogood) (nogoods_in output.log)
     × All (λ line. (nogood : Nogood) → IsCompletionNogood old.join old.things nogood → ¬ IsContained line nogood) (nogoods_in output.log)
+
+-- What is learned brings something that unit closure doesn't give by what stands before it.
+abbrev pub LearnedLinesAreNew : Type 0
+LearnedLinesAreNew =
+    (old new : State) (asked limit : ℕ) (assume : List Assumption) (output : Output) (before rest : List Note) (line : Note) (nogood : Nogood)
+    → Step old (Solve asked limit assume) output new → output.log ≡ before ++ line ∷ rest → IsLearnedLine before line nogood → BringsNew (IsStanding old before) nogood
 
 -- After a cut the log has as many learned nogoods as the limit and the answers together, and no solve is cut whose limit is
 -- greater than three to the power of the number of things.

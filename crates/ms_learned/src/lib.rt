@@ -2,7 +2,7 @@
 // Each is the contract of a function that does nothing, but that some call the law that they follow from.
 #![tactic(auto)]
 
-ghost use Rattle.ms_learned.specs.Laws.{CompleteIsRefuted, CutIsCounted, DeclaredAreThings, KeptAreConsequences, KeptAreTheLast, KeptIsNotLearnedAgain, KeptLast, LinesContainNoEarlier, LoggedLast, OthersKeepAll, TemporaryFollowsAnswers, TemporaryRestsOnAnswers, ThingsKeepTheirNumbers};
+ghost use Rattle.ms_learned.specs.Laws.{CompleteIsRefuted, CutIsCounted, DeclaredAreThings, KeptAreConsequences, KeptAreTheLast, KeptIsNotLearnedAgain, KeptLast, LearnedLinesAreNew, LinesContainNoEarlier, LoggedLast, OthersKeepAll, TemporaryFollowsAnswers, TemporaryRestsOnAnswers, ThingsKeepTheirNumbers};
 
 use ms_loops::nogoods_are_consequences;
 
@@ -69,6 +69,11 @@ pub fn temporary_follows_answers()
 /// No line of a solve contains an earlier one, or a completion nogood.
 pub fn lines_contain_no_earlier()
     ensures { LinesContainNoEarlier }
+{}
+
+/// What is learned brings something that unit closure doesn't give by what stands before it.
+pub fn learned_lines_are_new()
+    ensures { LearnedLinesAreNew }
 {}
 
 /// A cut has exactly its limit and its answers of learned nogoods, and no great limit cuts.
