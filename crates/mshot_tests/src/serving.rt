@@ -158,7 +158,7 @@ fn each_write_of_the_log_may_fail(rt: HostRuntime) -> Result<(), Fail> {
     let run = words(alloc, &["log", "run"])?;
     let mut replied = Vec::new(alloc);
     let mut told = Vec::new(alloc);
-    let mut failing = 0;
+    let mut failing = 0_u64;
     for (_, reply, lines) in STEPS {
         if !lines.is_empty() {
             let mut src = MemSource::new(script(alloc)?, 16, Vec::new(alloc));
@@ -168,7 +168,7 @@ fn each_write_of_the_log_may_fail(rt: HostRuntime) -> Result<(), Fail> {
             assert_eq!(rt; status, Status::LogFault, "put {failing}");
             assert_eq!(rt; out.bytes(), replied.as_slice(), "put {failing}");
             assert_eq!(rt; log.bytes(), told.as_slice(), "put {failing}");
-            failing += 1;
+            failing = failing.saturating_add(1);
         }
         replied.extend_from_slice(reply.as_bytes())?;
         told.extend_from_slice(lines.as_bytes())?;
@@ -204,7 +204,7 @@ fn cut_at(alloc: Global, end: usize) -> Result<Cut, Fail> {
     for (command, reply, _) in STEPS {
         let bytes = command.as_bytes();
         // the last line end may lack
-        if left + 1 < bytes.len() {
+        if left.saturating_add(1) < bytes.len() {
             let last = front_reply(&bytes[..left]);
             text.extend_from_slice(last.as_bytes())?;
             let status = if last.starts_with("refused") {
