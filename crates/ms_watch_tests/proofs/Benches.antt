@@ -1,15 +1,18 @@
 -- A bench of which something changes.
-use Rattle.std.proofs.Common.{ℕ, ◌≡◌, ◌<◌, ◌⊎◌, inl, inr, Bool, true, false, List, [], Option, Some, None, option_map, cond, refl, sym, ◌∙◌, ap, subst}
+use Rattle.std.proofs.Common.{ℕ, ◌≡◌, ◌<◌, ◌⊎◌, inl, inr, Bool, true, false, List, [], Option, Some, None, option_map, length, refl, sym, ◌∙◌, ap, subst}
 use Rattle.std.specs.Prelude.{◌≢◌, All, is_some}
 use Rattle.std.proofs.lemmas.Bool.{both_ways, cases_Bool, cases_eq, cond-true}
 use Rattle.ms_lits.specs.declared.lit.Lit.{Lit}
 use Rattle.ms_lits.specs.Literals.{Nogood}
+use Rattle.ms_lits.specs.Assignment.{Assignment, up_to}
 use Rattle.ms_nogood.specs.declared.kind.Kind.{Kind}
 use Rattle.ms_nogood.specs.declared.kind.Kind.TheVariants.{Base}
 use Rattle.ms_nogood.specs.Store.{Adds, Drops, IsAsleepAt, Store, Stored, Wakes, awake_in, nogood_at, slot_at}
 use Rattle.ms_nogood.specs.Propagation.{IsWithin}
-use Rattle.ms_nogood.specs.Watching.{HasSameLits}
+use Rattle.ms_nogood.specs.Looks.{IsCalmIn}
+use Rattle.ms_nogood.specs.Watching.{CanAttach, HasSameLits}
 use Rattle.ms_nogood.proofs.Propagation.{awake_same}
+use Rattle.ms_watch_tests.specs.Benches.{IsBench}
 
 -- The nogoods of a store are within the room, asleep or not.
 abbrev pub AreWithin : Store → ℕ → Type 0
@@ -116,3 +119,46 @@ attached_dropped before after old new key are drops here others = λ k. elim (ca
 
 pub same_dropped : (after : ℕ → Bool) (old new : Store) (key : ℕ) → Drops old new key → after key ≡ false → (k : ℕ) → after k ≡ true → HasSameLits old new k
 same_dropped after old new key drops here = λ k is. ap (option_map (λ (s : Stored). s.lits)) (drops.others k (λ same. both_ways (after k) (ap after same ∙ here) is))
+
+-- nothing stored, and nothing attached
+pub bench_begun : (store : Store) (trail : Assignment) (attached : ℕ → Bool) (in_step : Type 0) → store ≡ record { slots = []; kept = []; fresh = [] } → ((key : ℕ) → attached key ≡ false) → in_step → IsBench store trail attached in_step
+bench_begun store trail attached in_step none free step =
+    let nothing : (key : ℕ) → slot_at store key ≡ None = λ key. ap (λ (s : Store). slot_at s key) none in
+    record {
+      within = λ key s found. (let clash : None ≡ Some s = sym (nothing key) ∙ found in absurd (cc));
+      attached = λ key. free key ∙ sym (ap is_some (nothing key));
+      in_step = step;
+    }
+
+pub bench_added : (old new : Store) (trail : Assignment) (stored : Stored) (key : ℕ) (before after : ℕ → Bool) (was in_step : Type 0) → IsBench old trail before was → Adds old new stored key → All (λ (lit : Lit). lit.var < trail.room) stored.lits → after key ≡ true → ((other : ℕ) → other ≢ key → after other ≡ before other) → in_step → IsBench new trail after in_step
+bench_added old new trail stored key before after was in_step bench adds small here others step = record {
+  within = within_added old new stored key trail.room bench.within adds small;
+  attached = attached_added before after old new stored key bench.attached adds here others;
+  in_step = step;
+}
+
+pub bench_woken : (old new : Store) (trail : Assignment) (key : ℕ) (attached : ℕ → Bool) (was in_step : Type 0) → IsBench old trail attached was → Wakes old new key → in_step → IsBench new trail attached in_step
+bench_woken old new trail key attached was in_step bench wakes step = record {
+  within = within_woken old new key trail.room bench.within wakes;
+  attached = attached_woken attached old new key bench.attached wakes;
+  in_step = step;
+}
+
+pub bench_dropped : (old new : Store) (trail : Assignment) (key : ℕ) (before after : ℕ → Bool) (was in_step : Type 0) → IsBench old trail before was → Drops old new key → after key ≡ false → ((other : ℕ) → other ≢ key → after other ≡ before other) → in_step → IsBench new trail after in_step
+bench_dropped old new trail key before after was in_step bench drops here others step = record {
+  within = within_dropped old new key trail.room bench.within drops;
+  attached = attached_dropped before after old new key bench.attached drops here others;
+  in_step = step;
+}
+
+-- another trail with the same room
+pub bench_moved : (store : Store) (old new : Assignment) (before after : ℕ → Bool) (was in_step : Type 0) → IsBench store old before was → new.room ≡ old.room → ((key : ℕ) → after key ≡ before key) → in_step → IsBench store new after in_step
+bench_moved store old new before after was in_step bench room same step = record {
+  within = subst (AreWithin store) (sym room) bench.within;
+  attached = λ key. same key ∙ bench.attached key;
+  in_step = step;
+}
+
+pub can_attach : (store : Store) (trail : Assignment) (key : ℕ) (stored : Stored) → slot_at store key ≡ Some stored → (length stored.lits < 2) ⊎ ((level : ℕ) → level < trail.level → IsCalmIn (up_to level trail.entries) stored.lits) → CanAttach store trail key
+can_attach store trail key stored here calm = λ s found.
+    subst (λ (x : Stored). (length x.lits < 2) ⊎ ((level : ℕ) → level < trail.level → IsCalmIn (up_to level trail.entries) x.lits)) (some_same stored s (sym here ∙ found)) calm

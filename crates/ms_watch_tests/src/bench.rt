@@ -44,19 +44,24 @@ impl<P: Propagate + Drop> Bench<P> {
 
     /// Adds a nogood and attaches it, where its literals are in order and it may be attached.
     pub(crate) fn add(mut self, lits: &[Lit]) -> Result<Self, OutOfMemory> {
-        if in_order(lits, self.trail.room()) && can_attach(lits, &self.trail) {
-            let key = self.store.add(lits, Kind::Temporary)?;
-            self.way.attach(&self.store, &self.trail, key)?;
+        if !in_order(lits, self.trail.room()) {
+            return Ok(self);
         }
+        if !can_attach(lits, &self.trail) {
+            return Ok(self);
+        }
+        let key = self.store.add(lits, Kind::Temporary)?;
+        self.way.attach(&self.store, &self.trail, key)?;
         Ok(self)
     }
 
     /// Attaches the nogood of a literal, asleep.
     pub(crate) fn hold(mut self, lit: Lit) -> Result<Self, OutOfMemory> {
-        if lit.var < self.trail.room() {
-            let key = self.store.hold(lit)?;
-            self.way.attach(&self.store, &self.trail, key)?;
+        if lit.var >= self.trail.room() {
+            return Ok(self);
         }
+        let key = self.store.hold(lit)?;
+        self.way.attach(&self.store, &self.trail, key)?;
         Ok(self)
     }
 
@@ -89,10 +94,11 @@ impl<P: Propagate + Drop> Bench<P> {
             self.retreat();
             return None;
         }
+        let values = self.values();
         if descends && self.trail.level() < self.trail.room() {
             self.trail.push_level();
         }
-        Some(self.values())
+        Some(values)
     }
 
     /// Goes back by a level, or clears the trail at level 0.
