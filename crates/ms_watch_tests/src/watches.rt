@@ -1,5 +1,3 @@
-ghost use Rattle.std.specs.Prelude.{◌<◌};
-
 use crate::bench::{Bench, VARS, Values};
 use crate::numbers::Random;
 use ms_lits::{Lit, OutOfMemory};
@@ -11,17 +9,17 @@ use std::test::Fail;
 /// The number of steps of a run.
 const STEPS: u64 = 300;
 
-/// A nogood of up to four literals, in order.
+/// A nogood that has each variable by chance.
 fn add<P: Propagate + Drop>(
     alloc: Global,
     bench: Bench<P>,
     random: &mut Random,
 ) -> Result<Bench<P>, OutOfMemory> {
     let mut lits: Vec<Lit> = Vec::new(alloc);
-    for _ in 0..random.below(5) {
-        let lit = random.lit(VARS);
-        if lits.iter().all(|other| other.var < lit.var) {
-            lits.push(lit)?;
+    for var in 0..VARS {
+        if random.below(2) == 0 {
+            let truth = random.below(2) == 0;
+            lits.push(Lit { var, truth })?;
         }
     }
     bench.add(lits.as_slice())
@@ -34,7 +32,7 @@ fn run<P: Propagate + Drop>(alloc: Global, seed: u64) -> Result<Vec<Option<Value
     let mut bench: Bench<P> = Bench::new(alloc)?;
     for _ in 0..STEPS {
         let lit = random.lit(VARS);
-        let key = random.below(16) as usize;
+        let key = random.below(32) as usize;
         match random.below(16) {
             0..=3 => bench = add(alloc, bench, &mut random)?,
             4 => bench = bench.hold(lit)?,
@@ -43,7 +41,7 @@ fn run<P: Propagate + Drop>(alloc: Global, seed: u64) -> Result<Vec<Option<Value
             7..=9 => bench.assign(lit),
             10 => bench.back_to(u32::from(lit.truth)),
             11 if key == 0 => bench.clear(),
-            _ => found.push(bench.propagate(key < 12))?,
+            _ => found.push(bench.propagate(key < 24))?,
         }
     }
     Ok(found)
