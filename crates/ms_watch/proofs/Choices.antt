@@ -1,10 +1,10 @@
 -- What is known of the literals of a nogood with one literal more.
 use Rattle.std.proofs.Common.{ℕ, ◌≡◌, ◌<◌, ◌≤◌, ◌⊎◌, inl, inr, Bool, true, false, List, [], ◌∷◌, ◌++◌, Option, Some, None, option_map, length, get_or, sym, ◌∙◌, ap, subst, arith, refl}
-use Rattle.std.specs.Prelude.{All, Contains}
+use Rattle.std.specs.Prelude.{All, Contains, IfSome}
 use Rattle.std.proofs.lemmas.List.Elements.{All-push, All-weaker, All-contains, Contains-push, Contains-append_left}
 use Rattle.ms_lits.specs.declared.lit.Lit.{Lit}
 use Rattle.ms_lits.specs.declared.trail.Entry.{Entry}
-use Rattle.ms_lits.specs.Literals.{Nogood}
+use Rattle.ms_lits.specs.Literals.{Nogood, opposite_of}
 use Rattle.ms_lits.specs.Assignment.{Assignment, IsAssignment, HoldsIn, entry_of, up_to}
 use Rattle.ms_watch.specs.Choices.{IsTop, TellsTop, IsOpen, AreOpen}
 use Rattle.ms_watch.specs.Levels.{HasEntry, holds_entry, level_up_to, holds_up_to}
@@ -100,3 +100,23 @@ open_both entries seen first second lit both = record {
   first_untrue = both.first_untrue;
   second_untrue = both.second_untrue;
 }
+
+-- a literal that is true at no lower level than another is false
+pub lower_false : (a : Assignment) (lit other : Lit) (level other_level : ℕ) → IsAssignment a → HoldsIn a.entries (opposite_of lit) → HoldsIn a.entries other → option_map (λ (e : Entry). e.level) (entry_of a.entries lit.var) ≡ Some level → option_map (λ (e : Entry). e.level) (entry_of a.entries other.var) ≡ Some other_level → level ≤ other_level → (up : ℕ) → HoldsIn (up_to up a.entries) other → HoldsIn (up_to up a.entries) (opposite_of lit)
+lower_false a lit other level other_level t fails holds is other_is lower up held =
+    let o = holds_entry a.entries other holds in
+    let e = holds_entry a.entries (opposite_of lit) fails in
+    let under : o.entry.level ≤ up = level_up_to a up other o.entry t o.found held in
+    let low : e.entry.level ≤ up = omega (arith, under, lower, level_is a.entries other other_level o.entry other_is o.found, level_is a.entries (opposite_of lit) level e.entry is e.found) in
+    holds_up_to up a.entries (opposite_of lit) e.entry e.found fails low
+
+-- a literal that is false at level 0
+pub bottom_false : (a : Assignment) (lit : Lit) (level : ℕ) → HoldsIn a.entries (opposite_of lit) → option_map (λ (e : Entry). e.level) (entry_of a.entries lit.var) ≡ Some level → level ≡ 0 → HoldsIn (up_to 0 a.entries) (opposite_of lit)
+bottom_false a lit level fails is bottom =
+    let e = holds_entry a.entries (opposite_of lit) fails in
+    holds_up_to 0 a.entries (opposite_of lit) e.entry e.found fails (omega (arith, bottom, level_is a.entries (opposite_of lit) level e.entry is e.found))
+
+-- the greatest of the true ones holds still where more holds
+pub top_there : (entries new : List Entry) (seen : Nogood) (room : ℕ) (top : Option Lit) → ((l : Lit) → HoldsIn entries l → HoldsIn new l) → All (λ l. l.var < room) seen → TellsTop entries seen top → IfSome top (λ other. (other.var < room) × HoldsIn new other)
+top_there entries new seen room None more within t = tt
+top_there entries new seen room (Some top) more within t = (All-contains (λ (l : Lit). l.var < room) seen top within t.contained, more top t.holds)

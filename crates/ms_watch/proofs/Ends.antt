@@ -18,11 +18,7 @@ use Rattle.ms_watch.specs.declared.state.State.TheVariants.{Detached, Loose, Wat
 use Rattle.ms_watch.specs.Watches.{Watching, HasFalse, IsQuiet, AreWatched, IsGuarded, AreKept, state_in, is_attached, lits_at}
 use Rattle.ms_watch.specs.Walks.{AreSettled, AreCalm}
 use Rattle.ms_watch.specs.Fronts.{up_to_all}
-use Rattle.ms_watch.proofs.Settling.{calm_two}
-
-not_both : (value : Option Bool) (truth : Bool) → value ≡ Some truth → value ≡ Some (not truth) → ⊥
-not_both value true one other = (let no_ : Some true ≡ Some false = sym one ∙ other in cc)
-not_both value false one other = (let no_ : Some false ≡ Some true = sym one ∙ other in cc)
+use Rattle.ms_watch.proofs.Settling.{calm_two, calm_false, false_up}
 
 holds_or : (value : Option Bool) (truth : Bool) → (value ≡ Some truth) ⊎ (value ≡ Some truth → ⊥)
 holds_or None truth = inr (λ is. cc)
@@ -37,17 +33,6 @@ slot_kept (Some x) s is = ap Some (awake_same x s is)
 
 slot_found : (store : Store) (key : ℕ) (s : Stored) → nogood_at store key ≡ Some s → slot_at store key ≡ Some s
 slot_found store key s found = slot_kept (slot_at store key) s found
-
-calm_false : (entries : List Entry) (lits : Nogood) → HasFalse entries lits → IsCalmIn entries lits
-calm_false entries lits has =
-    let untrue : HoldsIn entries has.lit → ⊥ = λ (holds : HoldsIn entries has.lit). not_both (value_in entries has.lit.var) has.lit.truth holds has.opposite in
-    record {
-      not_whole = λ whole. untrue (All-contains (HoldsIn entries) lits has.lit whole has.contained);
-      closed = λ l others. elim (All-contains (λ (other : Lit). (other ≡ l) ⊎ HoldsIn entries other) lits has.lit others has.contained) [
-        | inl same ↦ subst (λ (x : Lit). HoldsIn entries (opposite_of x)) same has.opposite
-        | inr holds ↦ absurd (untrue holds)
-      ];
-    }
 
 -- a watched nogood is calm where all was looked at
 calm_watched : (lists : ℕ → List Watch) (trail : Assignment) (seen key : ℕ) (lits : Nogood) (first second : Lit) → seen ≡ length trail.entries → ((i : ℕ) (d : Entry) → i < length trail.entries → (get_or trail.entries i d).level ≤ trail.level) → AreWatched lists trail seen key lits first second → IsCalmIn trail.entries lits
@@ -72,7 +57,10 @@ calm_state : (w : Watching) (store : Store) (trail : Assignment) (key : ℕ) (s 
 calm_state w store trail key s Detached settled all found is attached = cc
 calm_state w store trail key s Loose settled all found is attached =
     let g = subst (IsGuarded settled.lists trail w.seen key s.lits) is (settled.kept.guarded key s.lits (found_lits store key s found)) in
-    settled.calm key g is s found
+    elim g [
+      | inl has ↦ settled.calm key has is s found
+      | inr h ↦ calm_false trail.entries s.lits (false_up 0 trail.entries s.lits settled.kept.leveled.rising h.1)
+    ]
 calm_state w store trail key s (Watched a b) settled all found is attached =
     let g = subst (IsGuarded settled.lists trail w.seen key s.lits) is (settled.kept.guarded key s.lits (found_lits store key s found)) in
     calm_watched settled.lists trail w.seen key s.lits a b all settled.kept.leveled.present g

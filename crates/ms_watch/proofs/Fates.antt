@@ -93,7 +93,7 @@ module _ (lit : Lit) (w : Watching) (store : Store) (trail : Assignment) (watch 
             (subst (λ (n : ℕ). Contains (merged (moved p.lists pending from x rest) from n) x) (sym gone.0) (there_moved p.lists from from watch x rest is (λ e. absurd (omega arith)))) of_key
       ])
       (λ l has. listed_stays p.lists from from watch x rest is (λ e. absurd (omega arith)) watch.key lits l refl of_key (λ same. belongs lits found) has)
-      (λ l quiet. quiet) (p.kept.guarded watch.key lits found)))
+      (λ l quiet. quiet) (λ rests. rests) (p.kept.guarded watch.key lits found)))
       (λ rest is lits found watches. elim (p.faced watch.key lits found (subst (λ (s : State). WatchesLit s lit) (still watch.key) watches)) [
         | inl has ↦ elim (Contains-cases watch rest has.watch (subst (λ (ws : List Watch). Contains ws has.watch) is has.contained)) [
           | inl first ↦ inr (record { lit = x.blocker; contained = belongs lits found (subst (λ (y : Watch). Contains lits y.blocker) (sym first) has.blocker); opposite = opposite })
@@ -134,7 +134,7 @@ module _ (lit : Lit) (w : Watching) (store : Store) (trail : Assignment) (watch 
         same = ap is_attached becomes ∙ sym (other_attached (state_in w.keys watch.key) lit other is_other);
       })
       (λ rest is lits found. subst (IsGuarded (merged (moved p.lists pending loose watch rest) from) trail w.seen watch.key lits) (sym becomes)
-      (has_key (merged (moved p.lists pending loose watch rest) from loose) watch.key watch (there_moved p.lists from loose watch watch rest is (λ e. absurd (omega arith))) refl))
+      (inl (has_key (merged (moved p.lists pending loose watch rest) from loose) watch.key watch (there_moved p.lists from loose watch watch rest is (λ e. absurd (omega arith))) refl)))
       (λ rest is lits found watches. absurd (subst (λ (s : State). WatchesLit s lit) becomes watches))
 
   pub passing_moves : (new : Watching) (x : Watch) (next other : Lit) → new.links ≡ relinked w.links pending (list_of next) x → state_in new.keys watch.key ≡ Watched next other → ((k : ℕ) → (k ≡ watch.key → ⊥) → state_in new.keys k ≡ state_in w.keys k) → new.seen ≡ w.seen → from < length w.links.heads → x ≡ record { key = watch.key; blocker = other } → IsOther (state_in w.keys watch.key) lit other → IsNext store trail.entries watch.key other next → IsPassing lit new store trail × (pending_in new.links < pending_in w.links)

@@ -32,7 +32,7 @@ pub has_key : (watches : List Watch) (key : ℕ) (w : Watch) → Contains watche
 has_key watches key w contained same = record { watch = w; contained = contained; same = same }
 
 -- the watches of one key alone change
-pub kept_changed : (lists new : ℕ → List Watch) (count : ℕ) (keys new_keys : List State) (seen : ℕ) (store : Store) (trail : Assignment) (key : ℕ) → AreKept lists count keys seen store trail → ((other : ℕ) → (other ≡ key → ⊥) → state_in new_keys other ≡ state_in keys other) → is_attached (state_in new_keys key) ≡ is_attached (state_in keys key) → ((list : ℕ) (w : Watch) → 2 ≤ list → (w.key ≡ key → ⊥) → Contains (lists list) w → Contains (new list) w) → ((list : ℕ) (w : Watch) → 3 ≤ list → Contains (new list) w → Contains (lists list) w ⊎ (w.blocker.var < trail.room)) → ((lits : Nogood) → lits_at store key ≡ Some lits → IsGuarded new trail seen key lits (state_in new_keys key)) → AreKept new count new_keys seen store trail
+pub kept_changed : (lists new : ℕ → List Watch) (count : ℕ) (keys new_keys : List State) (seen : ℕ) (store : Store) (trail : Assignment) (key : ℕ) → AreKept lists count keys seen store trail → ((other : ℕ) → (other ≡ key → ⊥) → state_in new_keys other ≡ state_in keys other) → is_attached (state_in new_keys key) ≡ is_attached (state_in keys key) → ((list : ℕ) (w : Watch) → 2 ≤ list → (w.key ≡ key → ⊥) → Contains (lists list) w → Contains (new list) w) → ((list : ℕ) (w : Watch) → 4 ≤ list → Contains (new list) w → Contains (lists list) w ⊎ (w.blocker.var < trail.room)) → ((lits : Nogood) → lits_at store key ≡ Some lits → IsGuarded new trail seen key lits (state_in new_keys key)) → AreKept new count new_keys seen store trail
 kept_changed lists new count keys new_keys seen store trail key kept others same keep only guard =
     let was : (k : ℕ) → is_attached (state_in new_keys k) ≡ is_attached (state_in keys k) = λ k. elim (cases_eq k key) [
       | inl at ↦ ap (λ (n : ℕ). is_attached (state_in new_keys n)) at ∙ same ∙ ap (λ (n : ℕ). is_attached (state_in keys n)) (sym at)
@@ -54,7 +54,7 @@ kept_changed lists new count keys new_keys seen store trail key kept others same
             (guarded_mapped lists new trail trail seen seen k lits (state_in keys k) (omega arith)
             (λ list le has. has_key (new list) k has.watch (keep list has.watch le (λ e. other (sym has.same ∙ e)) has.contained) has.same)
             (λ l has. record { watch = has.watch; contained = keep (list_of l) has.watch (omega arith) (λ e. other (sym has.same ∙ e)) has.contained; same = has.same; blocker = has.blocker })
-            (λ l quiet. quiet) (kept.guarded k lits found))
+            (λ l quiet. quiet) (λ rests. rests) (kept.guarded k lits found))
       ];
     }
 
@@ -143,7 +143,7 @@ module _ (lists : ℕ → List Watch) (from to : ℕ) (first x : Watch) (rest : 
   pub there_moved : Contains (merged (moved lists pending to x rest) from to) x
   there_moved = merged_in (moved lists pending to x rest) from to x (moved_there lists pending to x rest)
 
-  pub kept_moved : (count : ℕ) (keys new_keys : List State) (seen : ℕ) (store : Store) (trail : Assignment) → AreKept (merged lists from) count keys seen store trail → (3 ≤ to → x.blocker.var < trail.room) → ((other : ℕ) → (other ≡ first.key → ⊥) → state_in new_keys other ≡ state_in keys other) → is_attached (state_in new_keys first.key) ≡ is_attached (state_in keys first.key) → ((lits : Nogood) → lits_at store first.key ≡ Some lits → IsGuarded (merged (moved lists pending to x rest) from) trail seen first.key lits (state_in new_keys first.key)) → AreKept (merged (moved lists pending to x rest) from) count new_keys seen store trail
+  pub kept_moved : (count : ℕ) (keys new_keys : List State) (seen : ℕ) (store : Store) (trail : Assignment) → AreKept (merged lists from) count keys seen store trail → (4 ≤ to → x.blocker.var < trail.room) → ((other : ℕ) → (other ≡ first.key → ⊥) → state_in new_keys other ≡ state_in keys other) → is_attached (state_in new_keys first.key) ≡ is_attached (state_in keys first.key) → ((lits : Nogood) → lits_at store first.key ≡ Some lits → IsGuarded (merged (moved lists pending to x rest) from) trail seen first.key lits (state_in new_keys first.key)) → AreKept (merged (moved lists pending to x rest) from) count new_keys seen store trail
   kept_moved count keys new_keys seen store trail kept small others same guard =
       kept_changed (merged lists from) (merged (moved lists pending to x rest) from) count keys new_keys seen store trail first.key kept others same keep_moved
       (λ list w high has. elim (only_moved list w (omega arith) has) [

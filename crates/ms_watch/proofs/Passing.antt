@@ -13,7 +13,7 @@ use Rattle.ms_watch.specs.declared.lists.Watch.{Watch}
 use Rattle.ms_watch.specs.declared.state.State.{State}
 use Rattle.ms_watch.specs.declared.state.State.TheVariants.{Detached, Loose, Watched}
 use Rattle.ms_watch.specs.Links.{Links, HasFront, HaveLists, relinked}
-use Rattle.ms_watch.specs.Watches.{Watching, pending, loose, list_of, state_in, is_attached, lits_at, HasKey, HasWatch, HasFalse, IsQuiet, IsWatchedBy, AreWatched, IsGuarded, AreKept}
+use Rattle.ms_watch.specs.Watches.{Watching, pending, loose, resting, list_of, state_in, is_attached, lits_at, HasKey, HasWatch, HasFalse, IsQuiet, IsWatchedBy, AreWatched, IsGuarded, AreKept}
 use Rattle.ms_watch.specs.Walks.{merged, pending_in, IsOther, WatchesLit, AreFaced, IsPassing}
 use Rattle.ms_watch.proofs.Linked.{front_is, have_relinked}
 use Rattle.ms_watch.specs.Fronts.{Rises, up_to_front, holds_more, false_whole}
@@ -24,12 +24,12 @@ use Rattle.ms_watch.proofs.Pending.{pending_is}
 -- lists of different literals are different
 pub list_of_same : (a b : Lit) → list_of a ≡ list_of b → a ≡ b
 list_of_same a b same =
-    let sign : (s t : Bool) → 3 + 2 * a.var + cond s 1 0 ≡ 3 + 2 * b.var + cond t 1 0 → (a.var ≡ b.var) × (s ≡ t) = λ s. elim s as (λ s. (t : Bool) → 3 + 2 * a.var + cond s 1 0 ≡ 3 + 2 * b.var + cond t 1 0 → (a.var ≡ b.var) × (s ≡ t)) [
-      | true ↦ λ t. elim t as (λ t. 3 + 2 * a.var + 1 ≡ 3 + 2 * b.var + cond t 1 0 → (a.var ≡ b.var) × (true ≡ t)) [
+    let sign : (s t : Bool) → 4 + 2 * a.var + cond s 1 0 ≡ 4 + 2 * b.var + cond t 1 0 → (a.var ≡ b.var) × (s ≡ t) = λ s. elim s as (λ s. (t : Bool) → 4 + 2 * a.var + cond s 1 0 ≡ 4 + 2 * b.var + cond t 1 0 → (a.var ≡ b.var) × (s ≡ t)) [
+      | true ↦ λ t. elim t as (λ t. 4 + 2 * a.var + 1 ≡ 4 + 2 * b.var + cond t 1 0 → (a.var ≡ b.var) × (true ≡ t)) [
         | true ↦ λ is. (omega arith, refl)
         | false ↦ λ is. absurd (omega arith)
       ]
-      | false ↦ λ t. elim t as (λ t. 3 + 2 * a.var + 0 ≡ 3 + 2 * b.var + cond t 1 0 → (a.var ≡ b.var) × (false ≡ t)) [
+      | false ↦ λ t. elim t as (λ t. 4 + 2 * a.var + 0 ≡ 4 + 2 * b.var + cond t 1 0 → (a.var ≡ b.var) × (false ≡ t)) [
         | true ↦ λ is. absurd (omega arith)
         | false ↦ λ is. (omega arith, refl)
       ]
@@ -89,7 +89,10 @@ module _ (lists : ℕ → List Watch) (from to : ℕ) (first x : Watch) (rest : 
 -- what is watched still, where no pending watch stands in the lists of its literals
 pub guarded_apart : (lists : ℕ → List Watch) (lit : Lit) (to : ℕ) (first x : Watch) (rest : List Watch) (is : lists pending ≡ first ∷ rest) (to_apart : to ≡ pending → ⊥) (trail : Assignment) (seen key : ℕ) (lits : Nogood) (state : State) → ¬ WatchesLit state lit → IsGuarded (merged lists (list_of lit)) trail seen key lits state → IsGuarded (merged (moved lists pending to x rest) (list_of lit)) trail seen key lits state
 guarded_apart lists lit to first x rest is to_apart trail seen key lits Detached none g = tt
-guarded_apart lists lit to first x rest is to_apart trail seen key lits Loose none g = has_apart lists (list_of lit) to first x rest is to_apart loose key (omega arith) (λ e. absurd (omega arith)) g
+guarded_apart lists lit to first x rest is to_apart trail seen key lits Loose none g = elim g [
+  | inl looked ↦ inl (has_apart lists (list_of lit) to first x rest is to_apart loose key (omega arith) (λ e. absurd (omega arith)) looked)
+  | inr h ↦ inr (has_apart lists (list_of lit) to first x rest is to_apart resting key (omega arith) (λ e. absurd (omega arith)) h.0, h.1)
+]
 guarded_apart lists lit to first x rest is to_apart trail seen key lits (Watched a b) none g = record {
   within = g.within;
   differ = g.differ;
@@ -146,7 +149,7 @@ module _ (lit : Lit) (w new : Watching) (store : Store) (trail : Assignment) (wa
     pub to_there : to < length w.links.heads
     pub lit_there : list_of lit < length w.links.heads
     pub not_pending : to ≡ pending → ⊥
-    pub small : 3 ≤ to → x.blocker.var < trail.room
+    pub small : 4 ≤ to → x.blocker.var < trail.room
     pub others : (other : ℕ) → (other ≡ watch.key → ⊥) → state_in new.keys other ≡ state_in w.keys other
     pub same : is_attached (state_in new.keys watch.key) ≡ is_attached (state_in w.keys watch.key)
 

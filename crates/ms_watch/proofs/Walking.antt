@@ -41,7 +41,7 @@ kept_same lists new count keys seen store trail same kept =
       guarded = λ key lits found. guarded_mapped lists new trail trail seen seen key lits (state_in keys key) (omega arith)
           (λ list le has. subst (λ (ws : List Watch). HasKey ws key) (sym (same list (omega arith))) has)
           (λ lit has. subst (λ (ws : List Watch). HasWatch ws key lits) (sym (same (list_of lit) (omega arith))) has)
-          (λ l quiet. quiet) (kept.guarded key lits found);
+          (λ l quiet. quiet) (λ rests. rests) (kept.guarded key lits found);
     }
 
 -- a walk begins with all that is in the list
@@ -101,7 +101,7 @@ ends list w store trail lists have kept none = record {
 }
 
 -- the blocker of what is pending
-pub blocker_there : (lists : ℕ → List Watch) (list : ℕ) (watch : Watch) (rest : List Watch) (count : ℕ) (keys : List State) (seen : ℕ) (store : Store) (trail : Assignment) → lists pending ≡ watch ∷ rest → AreKept (merged lists list) count keys seen store trail → 3 ≤ list → watch.blocker.var < trail.room
+pub blocker_there : (lists : ℕ → List Watch) (list : ℕ) (watch : Watch) (rest : List Watch) (count : ℕ) (keys : List State) (seen : ℕ) (store : Store) (trail : Assignment) → lists pending ≡ watch ∷ rest → AreKept (merged lists list) count keys seen store trail → 4 ≤ list → watch.blocker.var < trail.room
 blocker_there lists list watch rest count keys seen store trail is kept four =
     All-contains (λ (y : Watch). y.blocker.var < trail.room) (merged lists list list) watch (kept.blockers list four)
     (merged_pending lists list watch (subst (λ (ws : List Watch). Contains ws watch) (sym is) (Contains-first watch rest)))
@@ -121,7 +121,7 @@ back_kept list before count keys seen store trail watch rest is kept le =
     (λ lits found. guarded_mapped (merged before list) (merged lists list) trail trail seen seen watch.key lits (state_in keys watch.key) (omega arith)
     (λ n high has. has_key (merged lists list n) watch.key has.watch (stays n has.watch high has.contained) has.same)
     (λ l has. record { watch = has.watch; contained = stays (list_of l) has.watch (omega arith) has.contained; same = has.same; blocker = has.blocker })
-    (λ l quiet. quiet) (kept.guarded watch.key lits found))
+    (λ l quiet. quiet) (λ rests. rests) (kept.guarded watch.key lits found))
 
 -- the lists where the first pending watch goes
 pub record HasMoved (w new : Watching) (lists : ℕ → List Watch) (to : ℕ) (watch x : Watch) : Type 0 where

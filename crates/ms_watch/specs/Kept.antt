@@ -17,7 +17,7 @@ use Rattle.ms_refutation.proofs.Laws.{filter_twice}
 use Rattle.ms_watch.specs.declared.lists.Watch.{Watch}
 use Rattle.ms_watch.specs.declared.state.State.{State}
 use Rattle.ms_watch.specs.declared.state.State.TheVariants.{Detached, Loose, Watched}
-use Rattle.ms_watch.specs.Watches.{loose, list_of, state_in, is_attached, lits_at, HasKey, HasWatch, HasFalse, IsQuiet, IsWatchedBy, AreWatched, IsGuarded, AreLeveled, AreKept}
+use Rattle.ms_watch.specs.Watches.{loose, resting, list_of, state_in, is_attached, lits_at, HasKey, HasWatch, HasFalse, IsQuiet, IsWatchedBy, AreWatched, IsGuarded, AreLeveled, AreKept}
 use Rattle.ms_watch.specs.Fronts.{false_more, up_to_above, up_to_front, up_to_low, quiet_back}
 
 pub by_mapped : (lists new_lists : ℕ → List Watch) (entries new_entries : List Entry) (seen new_seen key : ℕ) (lits : Nogood) (lit : Lit) → (HasWatch (lists (list_of lit)) key lits → HasWatch (new_lists (list_of lit)) key lits) → (IsQuiet entries seen lits lit → IsQuiet new_entries new_seen lits lit) → IsWatchedBy lists entries seen key lits lit → IsWatchedBy new_lists new_entries new_seen key lits lit
@@ -35,14 +35,26 @@ watched_mapped lists new_lists trail new_trail seen new_seen key lits first seco
   by_second = by_mapped lists new_lists trail.entries new_trail.entries seen new_seen key lits second (listed second) (quiet second) are.by_second;
 }
 
-pub guarded_mapped : (lists new_lists : ℕ → List Watch) (trail new_trail : Assignment) (seen new_seen key : ℕ) (lits : Nogood) (state : State) → trail.room ≤ new_trail.room → ((list : ℕ) → 2 ≤ list → HasKey (lists list) key → HasKey (new_lists list) key) → ((lit : Lit) → HasWatch (lists (list_of lit)) key lits → HasWatch (new_lists (list_of lit)) key lits) → ((lit : Lit) → IsQuiet trail.entries seen lits lit → IsQuiet new_trail.entries new_seen lits lit) → IsGuarded lists trail seen key lits state → IsGuarded new_lists new_trail new_seen key lits state
-guarded_mapped lists new_lists trail new_trail seen new_seen key lits Detached room has listed quiet g = tt
-guarded_mapped lists new_lists trail new_trail seen new_seen key lits Loose room has listed quiet g = has loose (omega arith) g
-guarded_mapped lists new_lists trail new_trail seen new_seen key lits (Watched first second) room has listed quiet g = watched_mapped lists new_lists trail new_trail seen new_seen key lits first second room listed quiet g
+pub guarded_mapped : (lists new_lists : ℕ → List Watch) (trail new_trail : Assignment) (seen new_seen key : ℕ) (lits : Nogood) (state : State) → trail.room ≤ new_trail.room → ((list : ℕ) → 2 ≤ list → HasKey (lists list) key → HasKey (new_lists list) key) → ((lit : Lit) → HasWatch (lists (list_of lit)) key lits → HasWatch (new_lists (list_of lit)) key lits) → ((lit : Lit) → IsQuiet trail.entries seen lits lit → IsQuiet new_trail.entries new_seen lits lit) → (HasFalse (up_to 0 trail.entries) lits → HasFalse (up_to 0 new_trail.entries) lits) → IsGuarded lists trail seen key lits state → IsGuarded new_lists new_trail new_seen key lits state
+guarded_mapped lists new_lists trail new_trail seen new_seen key lits Detached room has listed quiet rests g = tt
+guarded_mapped lists new_lists trail new_trail seen new_seen key lits Loose room has listed quiet rests g = elim g [
+  | inl looked ↦ inl (has loose (omega arith) looked)
+  | inr h ↦ inr (has resting (omega arith) h.0, rests h.1)
+]
+guarded_mapped lists new_lists trail new_trail seen new_seen key lits (Watched first second) room has listed quiet rests g = watched_mapped lists new_lists trail new_trail seen new_seen key lits first second room listed quiet g
 
 -- the same lists
-pub guarded_still : (lists : ℕ → List Watch) (trail new_trail : Assignment) (seen new_seen key : ℕ) (lits : Nogood) (state : State) → trail.room ≤ new_trail.room → ((lit : Lit) → IsQuiet trail.entries seen lits lit → IsQuiet new_trail.entries new_seen lits lit) → IsGuarded lists trail seen key lits state → IsGuarded lists new_trail new_seen key lits state
-guarded_still lists trail new_trail seen new_seen key lits state room quiet g = guarded_mapped lists lists trail new_trail seen new_seen key lits state room (λ list le h. h) (λ lit h. h) quiet g
+pub guarded_still : (lists : ℕ → List Watch) (trail new_trail : Assignment) (seen new_seen key : ℕ) (lits : Nogood) (state : State) → trail.room ≤ new_trail.room → ((lit : Lit) → IsQuiet trail.entries seen lits lit → IsQuiet new_trail.entries new_seen lits lit) → (HasFalse (up_to 0 trail.entries) lits → HasFalse (up_to 0 new_trail.entries) lits) → IsGuarded lists trail seen key lits state → IsGuarded lists new_trail new_seen key lits state
+guarded_still lists trail new_trail seen new_seen key lits state room quiet rests g = guarded_mapped lists lists trail new_trail seen new_seen key lits state room (λ list le h. h) (λ lit h. h) quiet rests g
+
+-- where what rests will be looked at
+pub guarded_woken : (lists new_lists : ℕ → List Watch) (trail new_trail : Assignment) (seen new_seen key : ℕ) (lits : Nogood) (state : State) → trail.room ≤ new_trail.room → (HasKey (lists loose) key → HasKey (new_lists loose) key) → (HasKey (lists resting) key → HasKey (lists loose) key) → ((lit : Lit) → HasWatch (lists (list_of lit)) key lits → HasWatch (new_lists (list_of lit)) key lits) → ((lit : Lit) → IsQuiet trail.entries seen lits lit → IsQuiet new_trail.entries new_seen lits lit) → IsGuarded lists trail seen key lits state → IsGuarded new_lists new_trail new_seen key lits state
+guarded_woken lists new_lists trail new_trail seen new_seen key lits Detached room has cover listed quiet g = tt
+guarded_woken lists new_lists trail new_trail seen new_seen key lits Loose room has cover listed quiet g = elim g [
+  | inl looked ↦ inl (has looked)
+  | inr h ↦ inl (has (cover h.0))
+]
+guarded_woken lists new_lists trail new_trail seen new_seen key lits (Watched first second) room has cover listed quiet g = watched_mapped lists new_lists trail new_trail seen new_seen key lits first second room listed quiet g
 
 abbrev pub with_lit : Assignment → Lit → Option ℕ → Assignment
 with_lit trail lit reason = record { entries = trail.entries ++ entry_made lit trail.level reason ∷ []; level = trail.level; room = trail.room }
@@ -106,6 +118,7 @@ kept_assigned lists count keys seen store trail lit reason kept =
       guarded = λ key lits found. guarded_still lists trail (with_lit trail lit reason) seen seen key lits (state_in keys key) (omega arith)
           (λ l quiet level holds. false_more level trail.entries (e ∷ []) lits
           (quiet level (subst (λ (es : List Entry). HoldsIn (up_to level es) l) (take-append-le seen trail.entries (e ∷ []) kept.looked) holds)))
+          (λ rests. false_more 0 trail.entries (e ∷ []) lits rests)
           (kept.guarded key lits found);
     }
 
@@ -121,7 +134,7 @@ kept_descended lists count keys seen store trail kept all = record {
   stored = kept.stored;
   covered = kept.covered;
   blockers = kept.blockers;
-  guarded = λ key lits found. guarded_still lists trail (with_level trail (trail.level + 1)) seen seen key lits (state_in keys key) (omega arith) (λ l quiet. quiet) (kept.guarded key lits found);
+  guarded = λ key lits found. guarded_still lists trail (with_level trail (trail.level + 1)) seen seen key lits (state_in keys key) (omega arith) (λ l quiet. quiet) (λ rests. rests) (kept.guarded key lits found);
 }
 
 -- more room
@@ -133,7 +146,7 @@ kept_grown lists count keys seen store trail room kept more = record {
   stored = kept.stored;
   covered = kept.covered;
   blockers = λ list le. All-weaker (λ (w : Watch). w.blocker.var < trail.room) (λ (w : Watch). w.blocker.var < room) (λ w lt. omega arith) (lists list) (kept.blockers list le);
-  guarded = λ key lits found. guarded_still lists trail (record { entries = trail.entries; level = trail.level; room = room }) seen seen key lits (state_in keys key) more (λ l quiet. quiet) (kept.guarded key lits found);
+  guarded = λ key lits found. guarded_still lists trail (record { entries = trail.entries; level = trail.level; room = room }) seen seen key lits (state_in keys key) more (λ l quiet. quiet) (λ rests. rests) (kept.guarded key lits found);
 }
 
 -- another store, where what is attached has the same literals
@@ -176,12 +189,13 @@ kept_back lists count keys seen store trail level len cut kept low is less withi
       stored = kept.stored;
       covered = kept.covered;
       blockers = kept.blockers;
-      guarded = λ key lits found. guarded_still lists trail new seen cut key lits (state_in keys key) (omega arith) (λ l quiet. quiet_back level seen len cut es lits l kept.leveled.rising is less within quiet) (kept.guarded key lits found);
+      guarded = λ key lits found. guarded_still lists trail new seen cut key lits (state_in keys key) (omega arith) (λ l quiet. quiet_back level seen len cut es lits l kept.leveled.rising is less within quiet)
+          (λ rests. subst (λ (xs : List Entry). HasFalse xs lits) (sym (filter_twice 0 level es (omega arith))) rests) (kept.guarded key lits found);
     }
 
--- an empty trail
-pub kept_cleared : (lists : ℕ → List Watch) (count : ℕ) (keys : List State) (seen : ℕ) (store : Store) (trail : Assignment) → AreKept lists count keys seen store trail → AreKept lists count keys 0 store (record { entries = []; level = 0; room = trail.room })
-kept_cleared lists count keys seen store trail kept =
+-- an empty trail, where what rests will be looked at
+pub kept_cleared : (lists : ℕ → List Watch) (count : ℕ) (keys : List State) (seen : ℕ) (store : Store) (trail : Assignment) → AreKept lists count keys seen store trail → ((key : ℕ) → HasKey (lists resting) key → HasKey (lists loose) key) → AreKept lists count keys 0 store (record { entries = []; level = 0; room = trail.room })
+kept_cleared lists count keys seen store trail kept cover =
     let new : Assignment = record { entries = []; level = 0; room = trail.room } in
     record {
       leveled = record { rising = λ i k d le lt. absurd (omega arith); present = λ i d lt. absurd (omega arith) };
@@ -190,7 +204,7 @@ kept_cleared lists count keys seen store trail kept =
       stored = kept.stored;
       covered = kept.covered;
       blockers = kept.blockers;
-      guarded = λ key lits found. guarded_still lists trail new seen 0 key lits (state_in keys key) (omega arith) (λ l quiet level holds. (let h : None ≡ Some l.truth = holds in cc)) (kept.guarded key lits found);
+      guarded = λ key lits found. guarded_woken lists lists trail new seen 0 key lits (state_in keys key) (omega arith) (λ h. h) (cover key) (λ l h. h) (λ l quiet level holds. (let h : None ≡ Some l.truth = holds in cc)) (kept.guarded key lits found);
     }
 
 -- nothing is attached

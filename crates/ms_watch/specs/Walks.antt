@@ -15,7 +15,7 @@ use Rattle.ms_watch.specs.declared.state.Fate.{Fate}
 use Rattle.ms_watch.specs.declared.state.Fate.TheVariants.{Stays, Goes, Moves, Forces, Whole}
 use Rattle.ms_watch.specs.Links.{Links, HasFront, HaveLists, no_node, put, relinked}
 use Rattle.ms_watch.specs.Choices.{IsOpen}
-use Rattle.ms_watch.specs.Watches.{Watching, AreKept, HasWatch, HasKey, HasFalse, lits_at, state_in, list_of, pending, free, loose}
+use Rattle.ms_watch.specs.Watches.{Watching, AreKept, HasWatch, HasKey, HasFalse, lits_at, state_in, list_of, pending, free, loose, resting}
 
 -- how many nodes follow one another from a start on, of so many
 unfoldable pub reach : List Node → ℕ → ℕ → ℕ
@@ -113,6 +113,10 @@ watching w key first second = record {
 -- A free watch is there and the nogood is watched by the literals, or the first pending watch goes to the loose ones.
 abbrev pub Places : Watching → Watching → Watch → Lit → Lit → Type 0
 Places old new watch first second = (((spare : Watch) × HasFront old.links free spare) × (new ≡ watching old watch.key first second)) ⊎ (new ≡ record { links = relinked old.links pending loose watch; keys = old.keys; seen = old.seen })
+
+-- The first pending watch goes to those that rest, where there is such a list, or to the loose ones.
+abbrev pub Rests : Watching → Watching → Watch → Type 0
+Rests old new watch = ((resting < length old.links.heads) × (new ≡ record { links = relinked old.links pending resting watch; keys = old.keys; seen = old.seen })) ⊎ (new ≡ record { links = relinked old.links pending loose watch; keys = old.keys; seen = old.seen })
 
 -- All literals of the nogood of the key are true but this one.
 pub record IsForcing (store : Store) (entries : List Entry) (key : ℕ) (lit : Lit) : Type 0 where

@@ -1,6 +1,6 @@
 -- When watches are in step with a store and a trail.
 -- Source: Moskewicz, Madigan, Zhao, Zhang and Malik, "Chaff: engineering an efficient SAT solver" (2001).
-use Rattle.std.specs.Prelude.{ℕ, ◌≡◌, ◌≢◌, ◌<◌, ◌≤◌, ◌+◌, ◌*◌, ◌⊎◌, ◌++◌, [], Bool, true, false, cond, List, Option, Some, None, IsSome, option_map, map, take, length, slice_index, All, Contains}
+use Rattle.std.specs.Prelude.{ℕ, zero, suc, ◌≡◌, ◌≢◌, ◌<◌, ◌≤◌, ◌+◌, ◌*◌, ◌⊎◌, ◌++◌, [], Bool, true, false, cond, List, Option, Some, None, IsSome, option_map, map, take, length, slice_index, All, Contains}
 use Rattle.std.specs.List.{slice_index_or}
 use Rattle.ms_lits.specs.declared.lit.Lit.{Lit}
 use Rattle.ms_lits.specs.declared.trail.Entry.{Entry}
@@ -10,7 +10,7 @@ use Rattle.ms_nogood.specs.Store.{Store, slot_at}
 use Rattle.ms_watch.specs.declared.lists.Watch.{Watch}
 use Rattle.ms_watch.specs.declared.state.State.{State}
 use Rattle.ms_watch.specs.declared.state.State.TheVariants.{Detached, Loose, Watched}
-use Rattle.ms_watch.specs.Links.{Links, HaveLists, HasFront}
+use Rattle.ms_watch.specs.Links.{Links, HaveLists, HasFront, put}
 
 -- The lists of watches, how each key is attached, and the number of literals of the trail that were looked at.
 pub record Watching : Type 0 where
@@ -18,8 +18,8 @@ pub record Watching : Type 0 where
   pub keys : List State
   pub seen : ℕ
 
--- the lists that aren't those of a literal: of what is walked, of free watches, and of nogoods that are looked at
--- each time
+-- the lists that aren't those of a literal: of what is walked, of free watches, of nogoods that are looked at each
+-- time, and of nogoods that rest until the trail is cleared
 abbrev pub pending : ℕ
 pending = 0
 
@@ -29,9 +29,12 @@ free = 1
 abbrev pub loose : ℕ
 loose = 2
 
+abbrev pub resting : ℕ
+resting = 3
+
 -- the list of a literal
 abbrev pub list_of : Lit → ℕ
-list_of lit = 3 + 2 * lit.var + cond lit.truth 1 0
+list_of lit = 4 + 2 * lit.var + cond lit.truth 1 0
 
 abbrev pub state_in : List State → ℕ → State
 state_in keys key = slice_index_or keys key Detached
@@ -80,10 +83,11 @@ pub record AreWatched (lists : ℕ → List Watch) (trail : Assignment) (seen ke
   pub by_first : IsWatchedBy lists trail.entries seen key lits first
   pub by_second : IsWatchedBy lists trail.entries seen key lits second
 
--- The nogood of the key will be looked at, or is watched by two of its literals.
+-- The nogood of the key will be looked at, or it rests with a literal that is false at level 0, or it is watched by two
+-- of its literals.
 abbrev pub IsGuarded : (ℕ → List Watch) → Assignment → ℕ → ℕ → Nogood → State → Type 0
 IsGuarded lists trail seen key lits Detached = Unit {0}
-IsGuarded lists trail seen key lits Loose = HasKey (lists loose) key
+IsGuarded lists trail seen key lits Loose = HasKey (lists loose) key ⊎ (HasKey (lists resting) key × HasFalse (up_to 0 trail.entries) lits)
 IsGuarded lists trail seen key lits (Watched first second) = AreWatched lists trail seen key lits first second
 
 -- Levels rise along the entries, up to the present one.
@@ -99,8 +103,20 @@ pub record AreKept (lists : ℕ → List Watch) (count : ℕ) (keys : List State
   pub late : (i : ℕ) (d : Entry) → seen ≤ i → i < length trail.entries → (slice_index_or trail.entries i d).level ≡ trail.level
   pub stored : (key : ℕ) → is_attached (state_in keys key) ≡ true → IsSome (lits_at store key)
   pub covered : (key : ℕ) (lits : Nogood) → is_attached (state_in keys key) ≡ true → lits_at store key ≡ Some lits → All (λ lit. list_of lit < count) lits
-  pub blockers : (list : ℕ) → 3 ≤ list → All (λ watch. watch.blocker.var < trail.room) (lists list)
+  pub blockers : (list : ℕ) → 4 ≤ list → All (λ watch. watch.blocker.var < trail.room) (lists list)
   pub guarded : (key : ℕ) (lits : Nogood) → lits_at store key ≡ Some lits → IsGuarded lists trail seen key lits (state_in keys key)
+
+-- the lists, where what rests is looked at too as long as no literal was looked at
+abbrev pub woken : ℕ → (ℕ → List Watch) → ℕ → List Watch
+woken zero lists = put lists loose (lists loose ++ lists resting)
+woken (suc seen) lists = lists
+
+-- The watches are in step with a store and a trail, between calls.
+pub record AreReady (w : Watching) (store : Store) (trail : Assignment) : Type 0 where
+  pub lists : ℕ → List Watch
+  pub have : HaveLists w.links lists
+  pub kept : AreKept (woken w.seen lists) (length w.links.heads) w.keys w.seen store trail
+  pub none : lists pending ≡ []
 
 -- The watches are in step with a store and a trail.
 pub record AreInStep (w : Watching) (store : Store) (trail : Assignment) : Type 0 where

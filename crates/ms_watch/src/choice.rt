@@ -3,8 +3,9 @@ ghost use Rattle.std.specs.Prelude.{◌≡◌, ◌≢◌, ◌<◌, ◌⊎◌, �
 ghost use Rattle.ms_lits.specs.declared.lit.Lit.{Lit};
 ghost use Rattle.ms_lits.specs.Literals.{Nogood, opposite_of};
 ghost use Rattle.ms_lits.specs.Assignment.{HoldsIn, IsAssignment};
-ghost use Rattle.ms_watch.specs.Choices.{IsChoice, TellsTop};
+ghost use Rattle.ms_watch.specs.Choices.{IsChoice, IsKeeping, TellsTop};
 
+use crate::state::Keeping;
 use ms_lits::{Lit, Trail};
 
 /// Whether a literal is true.
@@ -115,4 +116,24 @@ pub(crate) fn replacement(lits: &[Lit], other: Lit, trail: &Trail) -> Option<Lit
         }
     }
     None
+}
+
+/// How a nogood is kept whose only literal that isn't true is false, with one of the greatest level among the true ones.
+pub(crate) fn keeping(lit: Lit, top: Option<Lit>, trail: &Trail) -> Keeping
+    requires room { lit.var < trail.now.room }
+    requires fails { HoldsIn trail.now.entries (opposite_of lit) }
+    requires assignment { IsAssignment trail.now }
+    requires top { IfSome top (λ other. (other.var < trail.now.room) × HoldsIn trail.now.entries other) }
+    ensures { IsKeeping trail.now.entries lit top result }
+{
+    let level = trail.level_of(lit.var);
+    if level == 0 {
+        return Keeping::Rests;
+    }
+    if let Some(other) = top {
+        if level <= trail.level_of(other.var) {
+            return Keeping::Beside(other);
+        }
+    }
+    Keeping::Waits
 }

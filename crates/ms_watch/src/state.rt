@@ -8,11 +8,13 @@ use ms_lits::Lit;
 pub(crate) const PENDING: usize = 0;
 /// Watches that nothing is watched by.
 pub(crate) const FREE: usize = 1;
-/// The nogoods that are looked at in each call: those that were attached since the last one, those without two different
-/// literals, and those that were asleep when they were looked at.
+/// The nogoods that are looked at in each call: those that were attached since the last one, those that were asleep when
+/// they were looked at, and those of one literal that isn't false at level 0.
 pub(crate) const LOOSE: usize = 2;
+/// The nogoods with a literal that is false at level 0, which are looked at again once the trail was cleared.
+pub(crate) const RESTING: usize = 3;
 /// From here on the lists of the literals.
-pub(crate) const LITERALS: usize = 3;
+pub(crate) const LITERALS: usize = 4;
 
 /// The list of the nogoods that watch a literal.
 pub(crate) fn list_of(lit: Lit) -> usize
@@ -43,6 +45,17 @@ pub(crate) enum State {
     Loose,
     /// It is in the lists of these two literals.
     Watched(Lit, Lit),
+}
+
+/// How a nogood is kept whose only literal that isn't true is false.
+#[derive(Clone, Copy, Debug, PartialEq, Eq)]
+pub(crate) enum Keeping {
+    /// The false literal is watched beside this true one.
+    Beside(Lit),
+    /// It rests until the trail is cleared.
+    Rests,
+    /// It is looked at in each call.
+    Waits,
 }
 
 /// What becomes of a watch whose literal is true.

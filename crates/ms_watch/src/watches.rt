@@ -7,13 +7,13 @@ ghost use Rattle.ms_nogood.specs.Store.{nogood_at, slot_at};
 ghost use Rattle.ms_nogood.specs.Propagation.{IsWithin, Propagates, IsWholeAt};
 ghost use Rattle.ms_watch.specs.declared.lists.Watch.{Watch};
 ghost use Rattle.ms_watch.specs.Links.{HasFront, relinked, swapped};
-ghost use Rattle.ms_watch.specs.Watches.{AreInStep, HasRoom, HaveLooked, is_attached, state_in, list_of, pending, free, loose};
+ghost use Rattle.ms_watch.specs.Watches.{AreInStep, AreReady, HasRoom, HaveLooked, is_attached, state_in, list_of, pending, free, loose};
 ghost use Rattle.ms_watch.specs.Steps.{assigned, changed, descended, grown};
-ghost use Rattle.ms_watch.specs.Walks.{IsWalking, IsOther, WatchesLit, AreFaced, IsPassing, IsFate, IsSettling, AreSettled, IsForcing, Places, pending_in};
+ghost use Rattle.ms_watch.specs.Walks.{IsWalking, IsOther, WatchesLit, AreFaced, IsPassing, IsFate, IsSettling, AreSettled, IsForcing, Places, pending_in, Rests};
 
-use crate::choice::{Choice, choose, is_false, is_true, replacement};
+use crate::choice::{Choice, choose, is_false, is_true, keeping, replacement};
 use crate::lists::{Lists, Watch};
-use crate::state::{FREE, Fate, LOOSE, PENDING, State, list_of, lists_for};
+use crate::state::{FREE, Fate, Keeping, LOOSE, PENDING, RESTING, State, list_of, lists_for};
 use ms_lits::{Lit, OutOfMemory, Trail};
 use ms_nogood::{Nogoods, Propagate, Scan};
 use std::alloc::Global;
@@ -40,7 +40,7 @@ impl Model for Watches {
 impl Propagate for Watches {
     ghost attached = { λ w key. is_attached (state_in w.keys key) };
 
-    ghost InStep = { AreInStep };
+    ghost InStep = { AreReady };
 
     ghost HasLooked = { λ w _ trail. HaveLooked w trail };
 
@@ -86,6 +86,7 @@ impl Propagate for Watches {
     }
 
     fn propagate(&mut self, store: &Nogoods, trail: &mut Trail) -> Scan {
+        self.wake(store, trail);
         loop {
             if let Some(key) = self.follow(store, trail) {
                 return Scan::Violated(key);
@@ -128,6 +129,22 @@ impl Watches {
             State::Watched(first, second) if second == lit => Some(first),
             _ => None,
         }
+    }
+
+    /// Has what rests looked at, where no literal of the trail was looked at.
+    fn wake(&mut self, store: &Nogoods, trail: &Trail)
+        requires ready { AreReady self.old store.now trail.now }
+        ensures in_step { AreInStep self.new store.now trail.now }
+        ensures keys { self.new.keys ≡ self.old.keys }
+    {
+        if self.seen() > 0 {
+            return;
+        }
+        if !self.has_list(RESTING) {
+            return;
+        }
+        self.begin(RESTING);
+        self.put_back(LOOSE, store, trail);
     }
 
     /// Looks at the literals of the trail that weren't looked at.
@@ -297,11 +314,37 @@ impl Watches {
                 self.watch(watch, first, second);
                 false
             }
-            Choice::One(lit, _) => {
+            Choice::One(lit, top) => {
                 force(lit, key, store, trail);
-                self.send(LOOSE, watch);
-                false
+                let _assignment = trail.len();
+                match keeping(lit, top, trail) {
+                    Keeping::Beside(other) => {
+                        self.watch(watch, lit, other);
+                        false
+                    }
+                    Keeping::Rests => {
+                        self.rest(watch);
+                        false
+                    }
+                    Keeping::Waits => {
+                        self.send(LOOSE, watch);
+                        false
+                    }
+                }
             }
+        }
+    }
+
+    /// Lets the first pending nogood rest, or leaves it loose where there is no list of those that rest.
+    fn rest(&mut self, watch: Watch)
+        requires front { HasFront self.old.links pending watch }
+        requires loose { loose < length self.old.links.heads }
+        ensures { Rests self.old self.new watch }
+    {
+        if self.has_list(RESTING) {
+            self.send(RESTING, watch);
+        } else {
+            self.send(LOOSE, watch);
         }
     }
 
@@ -401,6 +444,7 @@ fn force(lit: Lit, key: usize, store: &Nogoods, trail: &mut Trail)
     requires awake { is_some (nogood_at store.now key) ≡ true }
     requires open { IsForcing store.now trail.old.entries key lit }
     ensures propagates { Propagates store.now trail.old trail.new }
+    ensures fails { HoldsIn trail.new.entries (opposite_of lit) }
     ensures assigned { ((trail.new ≡ trail.old) × HoldsIn trail.old.entries (opposite_of lit)) ⊎ (trail.new ≡ record trail.old { entries = trail.old.entries ++ entry_made (opposite_of lit) trail.old.level (Some key) ∷ [] }) }
 {
     if is_false(lit, trail) {
