@@ -51,10 +51,10 @@ woken_less lists count keys seen store trail (suc cut) zero le kept = absurd (om
 woken_less lists count keys seen store trail (suc cut) (suc all) le kept = kept
 
 woken_covers : (lists : ℕ → List Watch) (key : ℕ) → HasKey (woken 0 lists resting) key → HasKey (woken 0 lists loose) key
-woken_covers lists key has = has_key (woken 0 lists loose) key has.watch
-(subst (λ (ws : List Watch). Contains ws has.watch) (sym (put_here lists loose (lists loose ++ lists resting) loose refl))
-(Contains-append_right (lists loose) (lists resting) has.watch
-(subst (λ (ws : List Watch). Contains ws has.watch) (put_other lists loose (lists loose ++ lists resting) resting (λ e. absurd (omega arith))) has.contained))) has.same
+woken_covers lists key has =
+    let own : Contains (lists resting) has.watch = subst (λ (ws : List Watch). Contains ws has.watch) (put_other lists loose (lists loose ++ lists resting) resting (λ e. absurd (omega arith))) has.contained in
+    let there : Contains (woken 0 lists loose) has.watch = subst (λ (ws : List Watch). Contains ws has.watch) (sym (put_here lists loose (lists loose ++ lists resting) loose refl)) (Contains-append_right (lists loose) (lists resting) has.watch own) in
+    has_key (woken 0 lists loose) key has.watch there has.same
 
 woken_same : (seen : ℕ) (lists two : ℕ → List Watch) (n : ℕ) → (n ≡ loose → ⊥) → two n ≡ lists n → woken seen two n ≡ woken seen lists n
 woken_same zero lists two n other same = put_other two loose (two loose ++ two resting) n other ∙ same ∙ sym (put_other lists loose (lists loose ++ lists resting) n other)
@@ -128,11 +128,12 @@ step_wakes w new store trail none there is ready =
     let above : (n : ℕ) → 4 ≤ n → merged begun loose n ≡ woken 0 lists n = λ n le. merged_else begun loose n (λ e. absurd (omega arith))
     ∙ ap lists (flip_neither resting pending n (λ e. absurd (omega arith)) (λ e. absurd (omega arith)))
     ∙ sym (put_other lists loose (lists loose ++ lists resting) n (λ e. absurd (omega arith))) in
-    let loosens : (key : ℕ) → HasKey (woken 0 lists loose) key → HasKey (merged begun loose loose) key = λ key has. has_key (merged begun loose loose) key has.watch
-    (elim (Contains-append_cases (lists loose) (lists resting) has.watch (subst (λ (ws : List Watch). Contains ws has.watch) (put_here lists loose (lists loose ++ lists resting) loose refl) has.contained)) [
-      | inl own ↦ merged_in begun loose loose has.watch (subst (λ (ws : List Watch). Contains ws has.watch) (sym at_loose) own)
-      | inr rested ↦ merged_pending begun loose has.watch (subst (λ (ws : List Watch). Contains ws has.watch) (sym at_pending) rested)
-    ]) has.same in
+    let stays : (x : Watch) → Contains (woken 0 lists loose) x → Contains (merged begun loose loose) x = λ x has.
+    elim (Contains-append_cases (lists loose) (lists resting) x (subst (λ (ws : List Watch). Contains ws x) (put_here lists loose (lists loose ++ lists resting) loose refl) has)) [
+      | inl own ↦ merged_in begun loose loose x (subst (λ (ws : List Watch). Contains ws x) (sym at_loose) own)
+      | inr rested ↦ merged_pending begun loose x (subst (λ (ws : List Watch). Contains ws x) (sym at_pending) rested)
+    ] in
+    let loosens : (key : ℕ) → HasKey (woken 0 lists loose) key → HasKey (merged begun loose loose) key = λ key has. has_key (merged begun loose loose) key has.watch (stays has.watch has.contained) has.same in
     record {
       lists = begun;
       have = subst (λ (l : Links). HaveLists l begun) (sym links) (have_swapped w.links lists resting pending ready.have differ there (omega arith));

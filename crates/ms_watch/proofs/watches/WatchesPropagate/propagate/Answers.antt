@@ -1,7 +1,9 @@
-use Rattle.std.proofs.Common.{◌≡◌, ◌≤◌, ◌∙◌, length, sym, ap, refl, arith}
+use Rattle.std.proofs.Common.{List, ◌≡◌, ◌≤◌, ◌∙◌, length, sym, ap, refl, arith}
 use Rattle.ms_nogood.specs.Propagation.{Propagates}
 use Rattle.ms_nogood.proofs.Propagation.{propagates_none, propagates_then, propagates_longer}
-use Rattle.ms_watch.specs.Watches.{Watching}
+use Rattle.ms_watch.specs.declared.state.State.{State}
+use Rattle.ms_watch.specs.Watches.{Watching, is_attached, state_in}
+use Rattle.ms_watch.proofs.Steps.{step_ready}
 use Rattle.ms_watch.proofs.Ends.{settles}
 use Rattle.ms_watch.proofs.watches.WatchesPropagate.propagate.Goals as goal
 
@@ -9,7 +11,7 @@ pub loop-key-init : goal.loop-key-init
 loop-key-init c = record {
   propagates = propagates_none c.args.store.now c.args.trail.now c.args.trail.now refl;
   attached = λ key. refl;
-  in_step = c.requires.in_step;
+  in_step = c.wake.ensures.in_step;
 }
 
 pub returns-in-Some-clause-propagates : goal.returns-in-Some-clause-propagates
@@ -31,7 +33,7 @@ returns-then-seen-len-clause-answers c =
     let all : w.seen ≡ length c.settle.new.trail.entries = sym c.seen.ensures ∙ c.if-seen-len.true ∙ c.len.ensures.len in
     let same : length c.settle.new.trail.entries ≡ length c.follow.new.trail.entries = sym all ∙ c.settle.ensures.seen ∙ c.in_default.ensures.all in
     settles w c.args.store.now c.settle.new.trail (c.in_default-settle.ensures.settled same) all
-    (λ key awake. c.settle.ensures.attached key ∙ c.follow.ensures.attached key ∙ c.loop-key.invariant.attached key ∙ c.requires.attached key awake)
+    (λ key awake. c.settle.ensures.attached key ∙ c.follow.ensures.attached key ∙ c.loop-key.invariant.attached key ∙ ap (λ (ks : List State). is_attached (state_in ks key)) c.wake.ensures.keys ∙ c.requires.attached key awake)
 
 pub loop-key-preserved : goal.loop-key-preserved
 loop-key-preserved c = record {
