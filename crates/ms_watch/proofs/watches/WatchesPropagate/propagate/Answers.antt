@@ -42,3 +42,12 @@ loop-key-preserved c = record {
   attached = λ key. c.settle.ensures.attached key ∙ c.follow.ensures.attached key ∙ c.loop-key.invariant.attached key;
   in_step = c.settle.ensures.in_step;
 }
+
+pub returns-in-Some-clause-in_step : goal.returns-in-Some-clause-in_step
+returns-in-Some-clause-in_step c = step_ready c.follow.new.self c.args.store.now c.follow.new.trail c.follow.ensures.in_step
+
+pub returns-in-Some-settle-clause-in_step : goal.returns-in-Some-settle-clause-in_step
+returns-in-Some-settle-clause-in_step c = step_ready c.settle.new.self c.args.store.now c.settle.new.trail c.settle.ensures.in_step
+
+pub returns-then-seen-len-clause-in_step : goal.returns-then-seen-len-clause-in_step
+returns-then-seen-len-clause-in_step c = step_ready c.settle.new.self c.args.store.now c.settle.new.trail c.settle.ensures.in_step
