@@ -42,12 +42,7 @@ fn push_entry(text: &mut String, entry: &str) -> Result<(), OutOfMemory> {
 }
 
 /// The bench after a solve, of which both are told.
-fn tell(
-    alloc: Global,
-    bench: Bench,
-    asked: &Asked,
-    into: &mut Told,
-) -> Result<Bench, OutOfMemory> {
+fn tell(alloc: Global, bench: Bench, asked: &Asked, into: &mut Told) -> Result<Bench, OutOfMemory> {
     let tried = tried_text(alloc, &bench, asked)?;
     push_entry(&mut into.by_trying, tried.as_str())?;
     let (solved, run) = bench.solve(asked)?;

@@ -30,7 +30,7 @@ pub returns : goal.returns
 returns c = record {
   set = c.loop-number.invariant.set.set;
   covers = λ a low less. (
-    let most = c.loop-number-test.false in
-    c.loop-number.invariant.covers a low (omega (arith, less, most))
-  );
+      let most = c.loop-number-test.false in
+      c.loop-number.invariant.covers a low (omega (arith, less, most))
+      );
 }
