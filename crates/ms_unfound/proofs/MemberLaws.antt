@@ -1,22 +1,22 @@
 -- Lists that are gone through one element after the other: members, their numbers, and rules.
-use Rattle.std.proofs.Common.{◌≡◌, ◌≢◌, ◌∙◌, ◌⊎◌, ◌+◌, ◌<◌, ℕ, List, [], ◌∷◌, ◌++◌, Some, length, take, min, get_or, refl, sym, ap, subst, inl, inr, arith, length-append, Result, Err}
-use Rattle.std.specs.Prelude.{◌↔◌, slice_get, slice_index}
+use Rattle.std.proofs.Common.{◌≡◌, ◌≢◌, ◌∙◌, ◌⊎◌, ◌+◌, ◌<◌, ℕ, zero, suc, List, [], ◌∷◌, ◌++◌, Option, Some, None, length, take, min, get_or, replicate, set, refl, sym, ap, subst, inl, inr, arith, length-append, Result, Err}
+use Rattle.std.specs.Prelude.{◌↔◌, MatchOption, slice_get, slice_index}
 use Rattle.std.specs.List.{AllPairs, Any, Contains}
 use Rattle.std.specs.List.Sorted.{IsBinarySearchResult, IsStrictlyIncreasing}
 use Rattle.std.specs.Ordering.{nat_cmp}
 use Rattle.std.proofs.lemmas.Bool.{cases_eq, cases_lt}
 use Rattle.std.proofs.Math.Seq.{get_or-append_seam}
-use Rattle.std.proofs.lemmas.List.{get_or_append_left, get_or_default, get_or-take, length-take}
+use Rattle.std.proofs.lemmas.List.{get_or_append_left, get_or_default, get_or-take, length-replicate, length-set, length-take}
 use Rattle.std.proofs.lemmas.List.Elements.{Contains-append_left, Contains-get_or, Contains-push, Contains-push_cases}
 use Rattle.std.proofs.lemmas.List.Kept.{AllPairs-from_increasing}
 use Rattle.std.proofs.lemmas.List.Sorted.{searched}
-use Rattle.std.proofs.lemmas.Option.{get_or_from_slice_get, same_Some, slice_get-get_or, slice_get_within}
+use Rattle.std.proofs.lemmas.Option.{get_or_from_slice_get, none-some, same_Some, slice_get-get_or, slice_get_within}
 use Rattle.ms_complete.proofs.Lists.{any_left, any_more_cases, any_none, any_right, at_some, member_none, next_one, some_at, some_once}
 use Rattle.ms_join.specs.declared.ground_rule.GroundRule.{GroundRule}
 use Rattle.ms_cone.specs.Cones.{Numbered, number_of}
 use Rattle.ms_unfound.specs.declared.members.Members.{Members}
 use Rattle.ms_unfound.specs.Taking.{IsInnerAt}
-use Rattle.ms_unfound.specs.Members.{AreSelected, GoesRound, HasPassing, IsCyclic, IsRising}
+use Rattle.ms_unfound.specs.Members.{AreMembers, AreSelected, GoesRound, HasPassing, IsCyclic, IsHome, IsRising}
 
 -- ---- one element more
 
@@ -170,15 +170,68 @@ module _ (cone : Numbered) (Is : ℕ → Type 0) (atoms : List ℕ) where
       ];
     }
 
--- what passes one test passes the other
-pub selected_by : (cone : Numbered) (Is Other : ℕ → Type 0) (atoms : List ℕ) (m : Members) → ((n : ℕ) → Is n ↔ Other n) → AreSelected cone Is atoms m → AreSelected cone Other atoms m
-selected_by cone Is Other atoms m same are = record {
-  rising = are.rising;
-  numbered = are.numbered;
-  among = are.among;
-  passing = λ i a at. let p = are.passing i a at in record { number = p.number; is = (same (slice_index m.numbers i)).0 p.is };
-  all = λ a n has p. are.all a n has (record { number = p.number; is = (same n).1 p.is });
+-- ---- the members of each component
+
+pub at_set_same : {X : Type 0} (xs : List X) (k : ℕ) (x y : X) → slice_get (set xs k x) k ≡ Some y → x ≡ y
+at_set_same [] k x y at = absurd (none-some y at)
+at_set_same (z ∷ xs) zero x y at = same_Some x y at
+at_set_same (z ∷ xs) (suc k) x y at = at_set_same xs k x y at
+
+pub at_set_other : {X : Type 0} (xs : List X) (i k : ℕ) (x y : X) → (k ≡ i → ⊥) → slice_get (set xs i x) k ≡ Some y → slice_get xs k ≡ Some y
+at_set_other [] i k x y differs at = absurd (none-some y at)
+at_set_other (z ∷ xs) zero zero x y differs at = absurd (differs refl)
+at_set_other (z ∷ xs) zero (suc k) x y differs at = at
+at_set_other (z ∷ xs) (suc i) zero x y differs at = at
+at_set_other (z ∷ xs) (suc i) (suc k) x y differs at = at_set_other xs i k x y (λ same. differs (ap suc same)) at
+
+at_replicate : {X : Type 0} (n k : ℕ) (x y : X) → slice_get (replicate n x) k ≡ Some y → x ≡ y
+at_replicate zero k x y at = absurd (none-some y at)
+at_replicate (suc n) zero x y at = same_Some x y at
+at_replicate (suc n) (suc k) x y at = at_replicate n k x y at
+
+no_member_yet : Members
+no_member_yet = record { atoms = []; numbers = [] }
+
+pub members_start : (cone : Numbered) (numbers atoms : List ℕ) (members : List Members) → members ≡ replicate (length numbers) (record { atoms = []; numbers = [] }) → AreMembers cone numbers (take 0 atoms) members
+members_start cone numbers atoms members none = record {
+  len = ap length none ∙ length-replicate (length numbers) _;
+  each = λ k number m at_n at_m.
+      subst (AreSelected cone (λ n. n ≡ number) (take 0 atoms)) (at_replicate (length numbers) k _ m (ap (λ (ms : List Members). slice_get ms k) (sym none) ∙ at_m)) (selected_start cone (λ n. n ≡ number) atoms);
 }
+
+module _ (cone : Numbered) (numbers atoms : List ℕ) (i a : ℕ) (within : i < length atoms) (is : a ≡ get_or atoms i a) (members : List Members) (before : AreMembers cone numbers (take i atoms) members) where
+  pub members_keep : ((n : ℕ) → ¬ HasPassing cone (Contains numbers) a n) → AreMembers cone numbers (take (i + 1) atoms) members
+  members_keep none = record {
+    len = before.len;
+    each = λ k number m at_n at_m.
+        selected_keep cone (λ n. n ≡ number) atoms i a within is m (before.each k number m at_n at_m)
+        (λ n passes. none n (record { number = passes.number; is = subst (Contains numbers) (sym passes.is) (some_at numbers k number at_n) }));
+  }
+
+  module _ (home : ℕ) (m : Members) (rising : IsStrictlyIncreasing atoms) (rise : IsStrictlyIncreasing numbers) (is_home : IsHome cone numbers a home) (there : slice_get members home ≡ Some m) where
+    abbrev more : Members
+    more = record { atoms = m.atoms ++ a ∷ []; numbers = m.numbers ++ is_home.number ∷ [] }
+
+    more_at : (k number : ℕ) (other : Members) → k ≡ home → slice_get numbers k ≡ Some number → slice_get (set members home more) k ≡ Some other → AreSelected cone (λ n. n ≡ number) (take (i + 1) atoms) other
+    more_at k number other same at_n at_m =
+        let same_number : is_home.number ≡ number = same_Some is_home.number number (sym is_home.at ∙ (ap (slice_get numbers) (sym same) ∙ at_n)) in
+        let is_more : more ≡ other = at_set_same members home more other (ap (slice_get (set members home more)) (sym same) ∙ at_m) in
+        subst (AreSelected cone (λ n. n ≡ number) (take (i + 1) atoms)) is_more
+        (subst (λ (x : ℕ). AreSelected cone (λ n. n ≡ x) (take (i + 1) atoms) more) same_number
+        (selected_more cone (λ n. n ≡ is_home.number) atoms i a within is m (before.each home is_home.number m is_home.at there) is_home.number rising (record { number = is_home.numbered; is = refl })))
+
+    pub members_more : AreMembers cone numbers (take (i + 1) atoms) (set members home more)
+    members_more = record {
+      len = length-set members home more ∙ before.len;
+      each = λ k number other at_n at_m. elim (cases_eq k home) [
+        | inl same ↦ more_at k number other same at_n at_m
+        | inr differs ↦
+            selected_keep cone (λ n. n ≡ number) atoms i a within is other (before.each k number other at_n (at_set_other members home k more other differs at_m))
+            (λ n passes.
+            let same : is_home.number ≡ number = same_Some is_home.number number (sym is_home.numbered ∙ (passes.number ∙ ap Some passes.is)) in
+            differs (some_once numbers (different numbers rise) k home number at_n (is_home.at ∙ ap Some same)))
+      ];
+    }
 
 -- what a binary search doesn't find
 pub not_found : (xs : List ℕ) (x : ℕ) (r : Result ℕ ℕ) (i : ℕ) → IsBinarySearchResult (λ y. nat_cmp y x) xs r → IsRising xs → r ≡ Err i → ¬ Contains xs x
@@ -198,3 +251,9 @@ other_component m numbers number a place rising at same differs i inner =
 
 pub no_member : (m : Members) (atoms : List ℕ) (number a : ℕ) → atoms ≡ m.atoms → ¬ Contains atoms a → (i : ℕ) → ¬ IsInnerAt m number a i
 no_member m atoms number a same none i inner = none (subst (λ (as' : List ℕ). Contains as' a) (sym same) (some_at m.atoms i a inner.at))
+
+-- the place of a component
+pub home_from : (cone : Numbered) (numbers : List ℕ) (a number : ℕ) (found : Option ℕ) → Some number ≡ number_of cone a → MatchOption found (¬ Contains numbers number) (λ place. slice_get numbers place ≡ Some number)
+    → MatchOption found ((n : ℕ) → ¬ HasPassing cone (Contains numbers) a n) (IsHome cone numbers a)
+home_from cone numbers a number None is none n passes = none (subst (Contains numbers) (same_Some n number (sym passes.number ∙ sym is)) passes.is)
+home_from cone numbers a number (Some place) is at = record { number = number; at = at; numbered = sym is }

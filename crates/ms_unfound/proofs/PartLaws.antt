@@ -34,7 +34,7 @@ use Rattle.ms_unfound.specs.declared.part.Part.{Part}
 use Rattle.ms_unfound.specs.declared.part.Support.{Support}
 use Rattle.ms_unfound.specs.Loops.{IsLoopOf, is_outer, outer_bodies}
 use Rattle.ms_unfound.specs.Members.{AreSelected, GoesRound, IsCyclic}
-use Rattle.ms_unfound.specs.Taking.{AreSupports, IsNewLoop, IsPartOf, IsSupportBy}
+use Rattle.ms_unfound.specs.Taking.{ArePartsOfModule, AreSupports, IsNewLoop, IsPartOf, IsSupportBy}
 use Rattle.ms_unfound.proofs.LoopGrowth.{contains_or_not, head_of}
 use Rattle.ms_unfound.proofs.MemberLaws.{different}
 use Rattle.ms_unfound.proofs.Pressing.{was_false}
@@ -190,10 +190,13 @@ has_number cone a (k, within, at) =
 
 -- ---- single atoms without a cycle
 
-module _ (m : GroundModule) (things : List Thing) (cone : Numbered) (c : Members) (is : IsCone (added_rules m) m.heads cone) (selected : AreSelected cone (IsCyclic cone (added_rules m)) m.heads c)
+module _ (m : GroundModule) (things : List Thing) (cone : Numbered) (is : IsCone (added_rules m) m.heads cone)
     (no_recursion : (a b : ℕ) → Contains m.heads a → DependsInAggregate (added_rules m) a b → ¬ AreTogether (added_rules m) a b) where
-  -- a head that is no member is on no cycle
-  on_no_cycle : (a b : ℕ) → Contains m.heads a → ¬ Contains c.atoms a → Depends (added_rules m) a b → Reaches (added_rules m) b a → ⊥
+  abbrev OnCycle : ℕ → Type 0
+  OnCycle a = (n : ℕ) × (number_of cone a ≡ Some n) × IsCyclic cone (added_rules m) n
+
+  -- a head whose component isn't cyclic is on no cycle
+  on_no_cycle : (a b : ℕ) → Contains m.heads a → ¬ OnCycle a → Depends (added_rules m) a b → Reaches (added_rules m) b a → ⊥
   on_no_cycle a b head none depends back =
       let together : AreTogether (added_rules m) a b = record { forth = reaches_more (added_rules m) a a b (reaches_self (added_rules m) a) depends; back = back } in
       let (n, number) = has_number cone a (is.starts_are a head) in
@@ -202,11 +205,11 @@ module _ (m : GroundModule) (things : List Thing) (cone : Numbered) (c : Members
         | inl in_body ↦
             let (k, rule, within, at, (is_head, has_b)) = in_body in
             let round : GoesRound cone n rule = record { head = a; is_head = is_head; number = number; inner = any_from (λ x. number_of cone x ≡ Some n) rule.pos b has_b other } in
-            none (selected.all a n head (record { number = number; is = (k, rule, within, at, round) }))
+            none (n, number, (k, rule, within, at, round))
         | inr in_aggregate ↦ no_recursion a b head in_aggregate together
       ]
 
-  module _ (nogood : Nogood) (l : IsNewLoop m things nogood) (none : ¬ Contains c.atoms l.member) where
+  module _ (nogood : Nogood) (l : IsNewLoop m things nogood) (none : ¬ OnCycle l.member) where
     alone : (x : ℕ) → IsTrue (l.loop x) → l.member ≡ x
     alone x inside =
         let t = l.together l.member x l.has inside in
@@ -236,15 +239,15 @@ module _ (m : GroundModule) (things : List Thing) (cone : Numbered) (c : Members
         (λ k d within. same_test (get_or (added_rules m) k d) (Contains-get_or (added_rules m) k d within)))
         l.is
 
-  -- a loop without a member is a single atom
-  pub only_singles : (nogood : Nogood) (l : IsNewLoop m things nogood) → ¬ Contains c.atoms l.member
+  -- a loop that is on no cycle is a single atom
+  pub only_singles : (nogood : Nogood) (l : IsNewLoop m things nogood) → ¬ OnCycle l.member
       → (a : ℕ) × Contains m.heads a × IsNogoodOf things (plus (atom a) ∷ false_bodies (λ rule. has_head_in (nat_eq a) rule.head) (added_rules m)) nogood
   only_singles nogood l none = (l.member, l.heads l.member l.has, single nogood l none)
 
 -- ---- a part and its module
 
 module _ (m : GroundModule) (things : List Thing) (cone : Numbered) (c : Members) (part : Part) (once : AllPairs (λ t u. t ≢ u) things)
-    (is : IsCone (added_rules m) m.heads cone) (selected : AreSelected cone (IsCyclic cone (added_rules m)) m.heads c) (of : IsPartOf things c (added_rules m) part) where
+    (is : IsCone (added_rules m) m.heads cone) (Is : ℕ → Type 0) (selected : AreSelected cone Is m.heads c) (of : IsPartOf things c (added_rules m) part) where
   abbrev number_at : ℕ → ℕ
   number_at i = slice_index c.numbers i
 
@@ -321,10 +324,36 @@ module _ (m : GroundModule) (things : List Thing) (cone : Numbered) (c : Members
             (paired things c number loop l.loop mirrors (added_rules m) part.supports l.member var of.supports thing) once nogood l.is;
       }
 
-  -- what a module brings is given by its part, or is what completion says of an atom
+-- ---- the parts and their module
+
+element_at : {X : Type 0} (xs : List X) (i : ℕ) → i < length xs → (x : X) × (slice_get xs i ≡ Some x)
+element_at [] i within = absurd (omega (arith, within))
+element_at (x ∷ xs) zero within = (x, refl)
+element_at (x ∷ xs) (suc i) within = element_at xs i (omega (arith, within))
+
+module _ (m : GroundModule) (things : List Thing) (once : AllPairs (λ t u. t ≢ u) things) (parts : List Part) (are : ArePartsOfModule things m parts) where
+  -- what a part gives is what the module brings
+  pub new_from_parts : (nogood : Nogood) → Any (λ part. IsLoopOf part nogood) parts → IsNewLoop m things nogood
+  new_from_parts nogood (i, part, within, at, l) =
+      let inside : i < length are.numbers = subst (λ n. i < n) are.len within in
+      let number : ℕ = get_or are.numbers i 0 in
+      let there = are.each i number part (slice_get-get_or are.numbers i 0 inside) (slice_get-get_or parts i part within ∙ ap Some at) in
+      new_from_part m things are.cone there.members part once are.is (λ n. n ≡ number) there.selected there.of nogood l
+
+  -- what a module brings is given by a part, or is what completion says of an atom
   pub member_or_single : ((a b : ℕ) → Contains m.heads a → DependsInAggregate (added_rules m) a b → ¬ AreTogether (added_rules m) a b) → (nogood : Nogood) → IsNewLoop m things nogood
-      → IsLoopOf part nogood ⊎ ((a : ℕ) × Contains m.heads a × IsNogoodOf things (plus (atom a) ∷ false_bodies (λ rule. has_head_in (nat_eq a) rule.head) (added_rules m)) nogood)
-  member_or_single no_recursion nogood l = elim (contains_or_not c.atoms l.member) [
-    | inl there ↦ inl (part_from_new nogood l there)
-    | inr none ↦ inr (only_singles m things cone c is selected no_recursion nogood l none)
-  ]
+      → Any (λ part. IsLoopOf part nogood) parts ⊎ ((a : ℕ) × Contains m.heads a × IsNogoodOf things (plus (atom a) ∷ false_bodies (λ rule. has_head_in (nat_eq a) rule.head) (added_rules m)) nogood)
+  member_or_single no_recursion nogood l =
+      let head : Contains m.heads l.member = l.heads l.member l.has in
+      let (n, numbered) = has_number are.cone l.member (are.is.starts_are l.member head) in
+      elim (contains_or_not are.numbers n) [
+        | inl there ↦
+            let (i, at_n) = at_some are.numbers n there in
+            let within : i < length parts = subst (λ k. i < k) (sym are.len) (slice_get_within are.numbers i n at_n) in
+            let (part, at) = element_at parts i within in
+            let here = are.each i n part at_n at in
+            inl (any_from (λ p. IsLoopOf p nogood) parts part (some_at parts i part at)
+            (part_from_new m things are.cone here.members part once are.is (λ k. k ≡ n) here.selected here.of nogood l (here.selected.all l.member n head (record { number = numbered; is = refl }))))
+        | inr none ↦ inr (only_singles m things are.cone are.is no_recursion nogood l (λ (k, number, cyclic).
+            none (subst (Contains are.numbers) (same_Some k n (sym number ∙ numbered)) ((are.cyclic k).1 cyclic))))
+      ]

@@ -3,7 +3,8 @@ use Rattle.std.proofs.Common.{◌≡◌, ◌≢◌, ◌∙◌, ◌⊎◌, ◌<�
 use Rattle.std.specs.Prelude.{slice_get, slice_index}
 use Rattle.std.specs.List.{All, Any, Contains}
 use Rattle.std.proofs.lemmas.Bool.{false≢true}
-use Rattle.std.proofs.lemmas.List.Elements.{All-contains, All-push, All-weaker}
+use Rattle.std.proofs.lemmas.List.Elements.{All-append, All-contains, All-weaker}
+use Rattle.std.proofs.lemmas.List.{append-nil, nil_from_length}
 use Rattle.std.proofs.lemmas.Option.{same_Some, slice_get-get_or, slice_get_within}
 use Rattle.ms_base.proofs.Lists.{Contains-first}
 use Rattle.ms_lits.specs.declared.lit.Lit.{Lit}
@@ -18,6 +19,7 @@ use Rattle.ms_things.specs.Completion.{IsCompletionNogood, false_bodies, has_hea
 use Rattle.ms_things.specs.Completion.Completion.{unsupported}
 use Rattle.ms_things.specs.Loops.{IsLoopNogood}
 use Rattle.ms_things.specs.Signs.{IsNogoodOf, plus}
+use Rattle.ms_cone.specs.Cones.{IsCone, Numbered}
 use Rattle.ms_loops.proofs.Growing.{completion_grows}
 use Rattle.ms_cone.proofs.Walks.{depends_right}
 use Rattle.ms_complete.proofs.Lists.{all_from, any_cases, any_left, any_none, any_one, any_right, at_some, member_none, member_of}
@@ -28,9 +30,10 @@ use Rattle.ms_unfound.specs.Parts.{IsPart, IsSupport, Known}
 use Rattle.ms_unfound.specs.Accepted.{accepts}
 use Rattle.ms_unfound.specs.Laws.{SettledIsFounded}
 use Rattle.ms_unfound.specs.Loops.{IsGiven, IsLoopOf}
-use Rattle.ms_unfound.specs.Taking.{AreCyclicHeads, AreLoopsOf, CanTake, HasNoCycle, HasNoMember, IsNewLoop, IsPartOf, IsPartOfModule, IsSupportBy, Takes}
+use Rattle.ms_unfound.specs.Members.{IsCyclic}
+use Rattle.ms_unfound.specs.Taking.{AreLoopsOf, ArePartsOfModule, CanTake, HasNoCycle, IsNewLoop, IsPartOf, IsSupportBy, Takes}
 use Rattle.ms_unfound.proofs.LoopGrowth.{divided, loops_of_new, loops_of_old, together_larger}
-use Rattle.ms_unfound.proofs.PartLaws.{member_or_single, new_from_part, only_singles}
+use Rattle.ms_unfound.proofs.PartLaws.{member_or_single, new_from_parts}
 use Rattle.ms_unfound.proofs.Pressing.{loop_within, part_in}
 
 is_atom : Thing → Bool
@@ -77,16 +80,19 @@ module _ (things : List Thing) (m : Members) (rules : List GroundRule) (part : P
     supports = All-weaker (λ s. Any (λ rule. IsSupportBy things m rule s) rules) (IsSupport (length things) part) (λ s any. support_is s any.1 any.4) part.supports of.supports.each;
   }
 
-pub module_part_is : (things : List Thing) (m : GroundModule) (part : Part) → IsPartOfModule things m part → IsPart (length things) part
-module_part_is things m part is = part_is things is.members (added_rules m) part is.are.selected.numbered is.of
+pub parts_made : (things : List Thing) (m : GroundModule) (parts : List Part) → ArePartsOfModule things m parts → All (IsPart (length things)) parts
+parts_made things m parts are i d within =
+    let inside : i < length are.numbers = subst (λ n. i < n) are.len within in
+    let there = are.each i (get_or are.numbers i 0) (get_or parts i d) (slice_get-get_or are.numbers i 0 inside) (slice_get-get_or parts i d within) in
+    part_is things there.members (added_rules m) (get_or parts i d) there.selected.numbered there.of
 
 -- ---- more variables
 
 pub parts_kept : (vars more : ℕ) (parts : List Part) → vars ≤ more → All (IsPart vars) parts → All (IsPart more) parts
 parts_kept vars more parts fits are = All-weaker (IsPart vars) (IsPart more) (λ part is. part_in vars more part fits is) parts are
 
-pub parts_more : (vars : ℕ) (things : List Thing) (m : GroundModule) (parts : List Part) (part : Part) → vars ≤ length things → All (IsPart vars) parts → IsPartOfModule things m part → All (IsPart (length things)) (parts ++ part ∷ [])
-parts_more vars things m parts part fits are is = All-push (IsPart (length things)) parts part (parts_kept vars (length things) parts fits are) (module_part_is things m part is)
+pub parts_more : (vars : ℕ) (things : List Thing) (m : GroundModule) (parts made : List Part) → vars ≤ length things → All (IsPart vars) parts → ArePartsOfModule things m made → All (IsPart (length things)) (parts ++ made)
+parts_more vars things m parts made fits are is = All-append (IsPart (length things)) parts made (parts_kept vars (length things) parts fits are) (parts_made things m made is)
 
 -- ---- what becomes of the loop nogoods
 
@@ -132,36 +138,23 @@ module _ (old : Known) (m : GroundModule) (j joined : Join) (things more : List 
   divides : (nogood : Nogood) → IsLoopNogood joined now nogood → IsLoopNogood j things nogood ⊎ IsNewLoop m now nogood
   divides nogood = divided j joined m can.join can.well_formed can.composable can.is_joined things more can.are can.become nogood
 
-  -- without a part
-  pub loops_kept : HasNoMember m → AreLoopsOf joined now (record { vars = length now; parts = old.parts; seen = old.seen })
-  loops_kept none = record {
-    vars = refl;
-    each = λ nogood given. old_each nogood given.of_part;
-    all = λ nogood l. elim (divides nogood l) [
-      | inl before ↦ old_all old.parts (λ n any. any) nogood before
-      | inr comes ↦ inr (grown nogood (inr (only_singles m now none.are.cone none.members none.are.is none.are.selected no_recursion nogood comes (λ there. member_none _ (subst (λ (xs : List ℕ). Contains xs comes.member) none.none there)))))
-    ];
-  }
-
-  -- with one
-  pub loops_more : (part : Part) → IsPartOfModule now m part → AreLoopsOf joined now (record { vars = length now; parts = old.parts ++ part ∷ []; seen = old.seen })
-  loops_more part is =
-      let parts : List Part = old.parts ++ part ∷ [] in
-      let stay : (nogood : Nogood) → Any (λ p. IsLoopOf p nogood) old.parts → Any (λ p. IsLoopOf p nogood) parts = λ nogood any. any_left (λ p. IsLoopOf p nogood) old.parts (part ∷ []) any in
+  pub loops_more : (made : List Part) → ArePartsOfModule now m made → AreLoopsOf joined now (record { vars = length now; parts = old.parts ++ made; seen = old.seen })
+  loops_more made is =
+      let parts : List Part = old.parts ++ made in
       record {
         vars = refl;
-        each = λ nogood given. elim (any_cases (λ p. IsLoopOf p nogood) old.parts (part ∷ []) given.of_part) [
+        each = λ nogood given. elim (any_cases (λ p. IsLoopOf p nogood) old.parts made given.of_part) [
           | inl before ↦ old_each nogood before
           | inr last ↦
               loops_of_new j joined m can.join can.well_formed can.composable can.is_joined things more can.are can.become nogood
-              (new_from_part m now is.are.cone is.members part can.become.once is.are.is is.are.selected is.of nogood (any_one (λ p. IsLoopOf p nogood) part last))
+              (new_from_parts m now can.become.once made is nogood last)
         ];
         all = λ nogood l. elim (divides nogood l) [
-          | inl before ↦ old_all parts stay nogood before
-          | inr comes ↦ elim (member_or_single m now is.are.cone is.members part can.become.once is.are.is is.are.selected is.of no_recursion nogood comes) [
-            | inl loop ↦ inl (record {
-              within = loop_within (length now) part nogood (module_part_is now m part is) loop;
-              of_part = any_right (λ p. IsLoopOf p nogood) old.parts (part ∷ []) (0, part, omega arith, refl, loop);
+          | inl before ↦ old_all parts (λ n any. any_left (λ p. IsLoopOf p n) old.parts made any) nogood before
+          | inr comes ↦ elim (member_or_single m now can.become.once made is no_recursion nogood comes) [
+            | inl any ↦ inl (record {
+              within = loop_within (length now) any.1 nogood (All-contains (IsPart (length now)) made any.1 (parts_made now m made is) (member_of (λ p. IsLoopOf p nogood) made any)) any.4;
+              of_part = any_right (λ p. IsLoopOf p nogood) old.parts made any;
             })
             | inr single ↦ inr (grown nogood (inr single))
           ]
@@ -174,30 +167,23 @@ empty_from : (xs : List ℕ) → ((a : ℕ) → ¬ Contains xs a) → xs ≡ []
 empty_from [] none = refl
 empty_from (x ∷ xs) none = absurd (none x (Contains-first x xs))
 
-cycle_there : (m : GroundModule) (members : Members) → AreCyclicHeads m members → members.atoms ≢ [] → ¬ HasNoCycle m
-cycle_there m members are some none = some (empty_from members.atoms (λ a there.
-    let (i, at) = at_some members.atoms a there in
-    let (k, rule, within, at_rule, round) = (are.selected.passing i a at).is in
-    let (n, b, inside, at_b, number) = round.inner in
-    let together = (are.is.components round.head b (slice_index members.numbers i) round.number).0 number in
-    none round.head b (inl (k, rule, within, at_rule, (round.is_head, (n, inside, at_b)))) together.back))
+cycle_there : (m : GroundModule) (cone : Numbered) (n : ℕ) → IsCone (added_rules m) m.heads cone → IsCyclic cone (added_rules m) n → ¬ HasNoCycle m
+cycle_there m cone n is (k, rule, within, at_rule, round) none =
+    let (i, b, inside, at_b, number) = round.inner in
+    let together = (is.components round.head b n round.number).0 number in
+    none round.head b (inl (k, rule, within, at_rule, (round.is_head, (i, inside, at_b)))) together.back
 
-pub takes_kept : (old : Known) (m : GroundModule) (now : List Thing) → All (IsPart old.vars) old.parts → HasNoMember m → Takes old m now (record { vars = length now; parts = old.parts; seen = old.seen })
-takes_kept old m ends are none = record {
-  vars = refl;
-  seen = refl;
-  loops = λ j joined things more is can. subst (λ (ts : List Thing). AreLoopsOf joined ts (record { vars = length ts; parts = old.parts; seen = old.seen })) (sym is) (loops_kept old m j joined things more can are none);
-  nothing = λ _. refl;
-}
+no_parts : (things : List Thing) (m : GroundModule) (made : List Part) → ArePartsOfModule things m made → HasNoCycle m → made ≡ []
+no_parts things m made is none = nil_from_length made (is.len ∙ ap length (empty_from is.numbers (λ n there. cycle_there m is.cone n is.is ((is.cyclic n).0 there) none)))
 
-pub takes_more : (old : Known) (m : GroundModule) (now : List Thing) (part : Part) → All (IsPart old.vars) old.parts → IsPartOfModule now m part → Takes old m now (record { vars = length now; parts = old.parts ++ part ∷ []; seen = old.seen })
-takes_more old m ends part are is = record {
+pub takes_more : (old : Known) (m : GroundModule) (now : List Thing) (made : List Part) → All (IsPart old.vars) old.parts → ArePartsOfModule now m made → Takes old m now (record { vars = length now; parts = old.parts ++ made; seen = old.seen })
+takes_more old m ends made are is = record {
   vars = refl;
   seen = refl;
   loops = λ j joined things more same can.
-      subst (λ (ts : List Thing). AreLoopsOf joined ts (record { vars = length ts; parts = old.parts ++ part ∷ []; seen = old.seen })) (sym same)
-      (loops_more old m j joined things more can are part (subst (λ (ts : List Thing). IsPartOfModule ts m part) same is));
-  nothing = λ none. absurd (cycle_there m is.members is.are is.some none);
+      subst (λ (ts : List Thing). AreLoopsOf joined ts (record { vars = length ts; parts = old.parts ++ made; seen = old.seen })) (sym same)
+      (loops_more old m j joined things more can are made (subst (λ (ts : List Thing). ArePartsOfModule ts m made) same is));
+  nothing = λ none. ap (λ (ps : List Part). old.parts ++ ps) (no_parts ends m made is none) ∙ append-nil old.parts;
 }
 
 -- ---- the join of no modules

@@ -23,7 +23,7 @@ use Rattle.ms_unfound.specs.Parts.{IsPart, Known}
 use Rattle.ms_unfound.specs.Loops.{IsGiven, IsLoopOf, is_outer, outer_bodies}
 use Rattle.ms_unfound.specs.Marks.{flag_at}
 use Rattle.ms_unfound.specs.Settled.{IsExact, IsPressing, IsPressingGiven, IsPressingLoop, IsSettled, IsSettledPart}
-use Rattle.ms_unfound.specs.Watched.{AreSettled, AreWatched, IsWatchedAt, KeepPlaces, SettledBefore, SettlesOnly, SettlesPart, Speaks, StaySettled, Touches, places_at}
+use Rattle.ms_unfound.specs.Watched.{AreSettled, AreWatched, AreWatchedFrom, IsWatchedAt, KeepPlaces, SettledBut, SettlesOnly, SettlesPart, Speaks, StaySettled, Touches, places_at}
 use Rattle.ms_unfound.proofs.Pressing.{given_from, settled_from}
 
 -- ---- values, where an entry comes at the end
@@ -183,19 +183,28 @@ at_cases (y ∷ xs) x (suc i) a at = elim (at_cases xs x i a at) [ inl left ↦ 
 pub watched_kept : (old new : List (List ℕ)) (parts : List Part) → KeepPlaces old new → AreWatched old parts → AreWatched new parts
 watched_kept old new parts keeps watched i part at var speaks = keeps var i (watched i part at var speaks)
 
-pub watched_more : (old new : List (List ℕ)) (parts : List Part) (part : Part) → KeepPlaces old new → AreWatched old parts → IsWatchedAt new part (length parts) → AreWatched new (parts ++ part ∷ [])
-watched_more old new parts part keeps watched last i other at var speaks = elim (at_cases parts part i other at) [
-  | inl before ↦ keeps var i (watched i other before var speaks)
-  | inr (end, is) ↦ subst (λ (n : ℕ). Contains (places_at new var) n) (sym end) (last var (subst (λ (p : Part). Speaks p var) is speaks))
+-- what is in a list with more behind it
+append_cases : {X : Type 0} (xs ys : List X) (i : ℕ) (a : X) → slice_get (xs ++ ys) i ≡ Some a → (slice_get xs i ≡ Some a) ⊎ ((k : ℕ) × (i ≡ length xs + k) × (slice_get ys k ≡ Some a))
+append_cases [] ys i a at = inr (i, omega arith, at)
+append_cases (x ∷ xs) ys zero a at = inl at
+append_cases (x ∷ xs) ys (suc i) a at = elim (append_cases xs ys i a at) [ inl left ↦ inl left | inr (k, is, there) ↦ inr (k, omega (arith, is), there) ]
+
+pub watched_more : (old new : List (List ℕ)) (parts more : List Part) → KeepPlaces old new → AreWatched old parts → AreWatchedFrom new (length parts) more → AreWatched new (parts ++ more)
+watched_more old new parts more keeps watched last i part at var speaks = elim (append_cases parts more i part at) [
+  | inl before ↦ keeps var i (watched i part before var speaks)
+  | inr (k, is, there) ↦ subst (λ (n : ℕ). Contains (places_at new var) n) (sym is) (last k part there var speaks)
 ]
 
-pub settled_kept : (parts : List Part) (place : ℕ) (old new : List Bool) (seen after : List Entry) → SettledBefore place old new → after ≡ seen → AreSettled parts old seen → AreSettled parts new after
-settled_kept parts place old new seen after before same settled i part at flag = subst (IsSettledPart part) (sym same) (settled i part at (before i flag).0)
+pub settled_kept : (parts : List Part) (known count : ℕ) (old new : List Bool) (seen after : List Entry) → SettledBut known count old new → after ≡ seen → AreSettled parts old seen → AreSettled parts new after
+settled_kept parts known count old new seen after before same settled i part at flag = subst (IsSettledPart part) (sym same) (settled i part at (before i flag).0)
 
-pub settled_more : (parts : List Part) (part : Part) (old new : List Bool) (seen after : List Entry) → SettledBefore (length parts) old new → after ≡ seen → AreSettled parts old seen → AreSettled (parts ++ part ∷ []) new after
-settled_more parts part old new seen after before same settled i other at flag = elim (at_cases parts part i other at) [
+pub settled_more : (parts more : List Part) (old new : List Bool) (seen after : List Entry) → SettledBut (length parts) (length more) old new → after ≡ seen → AreSettled parts old seen → AreSettled (parts ++ more) new after
+settled_more parts more old new seen after before same settled i other at flag = elim (append_cases parts more i other at) [
   | inl early ↦ subst (IsSettledPart other) (sym same) (settled i other early (before i flag).0)
-  | inr (end, is) ↦ absurd (let less = (before i flag).1 in omega (arith, less, end))
+  | inr (k, is, there) ↦ absurd (elim (before i flag).1 [
+    | inl none ↦ (let within = slice_get_within more k other there in omega (arith, none, within))
+    | inr less ↦ omega (arith, less, is)
+  ])
 ]
 
 pub watched_from : (lists before : List (List ℕ)) (part : Part) (place : ℕ) → KeepPlaces before lists → All (λ var. Contains (places_at before var) place) part.atoms → All (λ s. Contains (places_at lists s.body) place) part.supports → IsWatchedAt lists part place

@@ -27,12 +27,6 @@ pub record IsInner (m : Members) (number : ℕ) (atoms : List ℕ) (place : ℕ)
   pub at : slice_get m.atoms place ≡ Some atom
   pub numbered : slice_index m.numbers place ≡ number
 
--- The heads of the module that are in cyclic components of its rules, by the numbers that some cone gives these.
-pub record AreCyclicHeads (m : GroundModule) (members : Members) : Type 0 where
-  pub cone : Numbered
-  pub is : IsCone (added_rules m) m.heads cone
-  pub selected : AreSelected cone (IsCyclic cone (added_rules m)) m.heads members
-
 -- The member in this place is the atom, and in the component with this number.
 pub record IsInnerAt (m : Members) (number a place : ℕ) : Type 0 where
   pub at : slice_get m.atoms place ≡ Some a
@@ -65,18 +59,36 @@ pub record IsPartOf (things : List Thing) (m : Members) (rules : List GroundRule
   pub numbers : part.numbers ≡ m.numbers
   pub supports : AreSupports things m rules part.supports
 
--- No head of the module is in a cyclic component.
-pub record HasNoMember (m : GroundModule) : Type 0 where
-  pub members : Members
-  pub are : AreCyclicHeads m members
-  pub none : members.atoms ≡ []
+-- What becomes of the part of some members where a rule comes: it has one support more that says what the rule says, or
+-- it is as it was, and the head is no member.
+abbrev pub TakesRule : List Thing → Members → GroundRule → Part → Part → Type 0
+TakesRule things m rule old new =
+    ((s : Support) × IsSupportBy things m rule s × (new ≡ record old { supports = old.supports ++ s ∷ [] })) ⊎ ((new ≡ old) × ((h : ℕ) → rule.head ≡ Some h → ¬ Contains m.atoms h))
 
--- The part is made of the heads of the module that are in cyclic components, of which there are some.
-pub record IsPartOfModule (things : List Thing) (m : GroundModule) (part : Part) : Type 0 where
+-- the same of each part
+pub record TakeRule (things : List Thing) (members : List Members) (rule : GroundRule) (old new : List Part) : Type 0 where
+  pub len : length new ≡ length old
+  pub each : (i : ℕ) (m : Members) (before after : Part) → slice_get members i ≡ Some m → slice_get old i ≡ Some before → slice_get new i ≡ Some after → TakesRule things m rule before after
+
+-- A part for each list of members.
+pub record ArePartsOf (things : List Thing) (members : List Members) (rules : List GroundRule) (parts : List Part) : Type 0 where
+  pub len : length parts ≡ length members
+  pub each : (i : ℕ) (m : Members) (part : Part) → slice_get members i ≡ Some m → slice_get parts i ≡ Some part → IsPartOf things m rules part
+
+-- The part is made of the heads of the module that have this number.
+pub record IsPartAt (things : List Thing) (m : GroundModule) (cone : Numbered) (number : ℕ) (part : Part) : Type 0 where
   pub members : Members
-  pub are : AreCyclicHeads m members
-  pub some : members.atoms ≢ []
+  pub selected : AreSelected cone (λ n. n ≡ number) m.heads members
   pub of : IsPartOf things members (added_rules m) part
+
+-- A part for each cyclic component of the rules of a module, by the numbers that some cone gives these.
+pub record ArePartsOfModule (things : List Thing) (m : GroundModule) (parts : List Part) : Type 0 where
+  pub cone : Numbered
+  pub is : IsCone (added_rules m) m.heads cone
+  pub numbers : List ℕ
+  pub cyclic : (n : ℕ) → Contains numbers n ↔ IsCyclic cone (added_rules m) n
+  pub len : length parts ≡ length numbers
+  pub each : (i number : ℕ) (part : Part) → slice_get numbers i ≡ Some number → slice_get parts i ≡ Some part → IsPartAt things m cone number part
 
 -- A loop nogood that a module brings: its set is one of heads of the module, within one component of its rules.
 pub record IsNewLoop (m : GroundModule) (things : List Thing) (nogood : Nogood) : Type 0 where

@@ -1,11 +1,10 @@
 -- Parts that are known to be settled on the entries that have been seen.
-use Rattle.std.specs.Prelude.{ℕ, ◌≡◌, ◌<◌, ◌⊎◌, Bool, IsTrue, List, [], Some, Any, Contains, slice_get}
+use Rattle.std.specs.Prelude.{ℕ, ◌≡◌, ◌+◌, ◌<◌, ◌⊎◌, Bool, IsTrue, List, [], Some, Any, Contains, slice_get}
 use Rattle.std.specs.List.{slice_index_or}
 use Rattle.ms_lits.specs.declared.trail.Entry.{Entry}
 use Rattle.ms_unfound.specs.declared.part.Part.{Part}
 use Rattle.ms_unfound.specs.declared.watch.Watch.{Watch}
 use Rattle.ms_unfound.specs.Marks.{flag_at}
-use Rattle.ms_unfound.specs.Settled.{IsSettledPart}
 use Rattle.ms_unfound.specs.Settled.{IsSettledPart}
 
 -- the places that the lists have for a variable
@@ -23,6 +22,10 @@ IsWatchedAt lists part place = (var : ℕ) → Speaks part var → Contains (pla
 -- the same of each part and its own place
 abbrev pub AreWatched : List (List ℕ) → List Part → Type 0
 AreWatched lists parts = (i : ℕ) (part : Part) → slice_get parts i ≡ Some part → IsWatchedAt lists part i
+
+-- the same of parts whose places begin there
+abbrev pub AreWatchedFrom : List (List ℕ) → ℕ → List Part → Type 0
+AreWatchedFrom lists known parts = (i : ℕ) (part : Part) → slice_get parts i ≡ Some part → IsWatchedAt lists part (known + i)
 
 -- each part with a flag is settled on the entries
 abbrev pub AreSettled : List Part → List Bool → List Entry → Type 0
@@ -47,6 +50,10 @@ SettlesPart part entries place old new = (i : ℕ) → IsTrue (flag_at new i) �
 -- no flag is new, and none is in this place or behind it
 abbrev pub SettledBefore : ℕ → List Bool → List Bool → Type 0
 SettledBefore place old new = (i : ℕ) → IsTrue (flag_at new i) → IsTrue (flag_at old i) × (i < place)
+
+-- no flag is new, and where there are some parts more, none is in a place from one on
+abbrev pub SettledBut : ℕ → ℕ → List Bool → List Bool → Type 0
+SettledBut known count old new = (i : ℕ) → IsTrue (flag_at new i) → IsTrue (flag_at old i) × ((count ≡ 0) ⊎ (i < known))
 
 -- each list keeps its places
 abbrev pub KeepPlaces : List (List ℕ) → List (List ℕ) → Type 0

@@ -1,16 +1,13 @@
 // The atoms of the cyclic components of a module.
-ghost use Rattle.std.specs.Prelude.{ℕ, ◌≡◌, ◌↔◌, Contains, IfOk, MatchBool, MatchOption, OnOk, Some, ◌++◌, ◌∷◌, [], slice_get};
+ghost use Rattle.std.specs.Prelude.{ℕ, ◌≡◌, ◌↔◌, Contains, IfOk, MatchBool, MatchOption, OnOk, Some, ◌++◌, ◌∷◌, [], replicate, slice_get};
 ghost use Rattle.std.specs.List.Sorted.{IsStrictlyIncreasing};
 ghost use Rattle.ms_cone.specs.Cones.{number_of};
-ghost use Rattle.ms_unfound.specs.Members.{AreSelected, GoesRound, HasOneOf, HasPassing, IsCyclic, IsRising};
-ghost use Rattle.ms_unfound.specs.Taking.{AreCyclicHeads};
-ghost use Rattle.ms_join.specs.Modules.{IsWellFormed};
+ghost use Rattle.ms_unfound.specs.Members.{AreComponents, AreMembers, GoesRound, HasOneOf, HasPassing, IsCyclic, IsHome, IsRising};
 
 use ms_base::atom_id::AtomId;
 use ms_base::memory::OutOfMemory;
 use ms_base::seq::Seq;
-use ms_cone::{Cone, Dependencies};
-use ms_join::ground_module::GroundModule;
+use ms_cone::Cone;
 use ms_join::ground_rule::GroundRule;
 use ms_lits::Numbers;
 use std::alloc::Global;
@@ -20,6 +17,13 @@ use std::alloc::Global;
 pub(crate) struct Members {
     pub atoms: Numbers,
     pub numbers: Numbers,
+}
+
+/// Components by rising numbers, and the members of each.
+#[derive(Drop)]
+pub(crate) struct Components {
+    pub numbers: Vec<u32>,
+    pub members: Vec<Members>,
 }
 
 /// The place of a number in a rising list.
@@ -85,38 +89,46 @@ fn rounds_of(alloc: Global, cone: &Cone, rules: &[GroundRule]) -> Result<Vec<u32
     Ok(rounds)
 }
 
-/// The number of the component of an atom, where it is one of these.
-fn number_among(cone: &Cone, rounds: &[u32], a: AtomId) -> Option<u32>
-    requires { IsRising rounds.now }
-    ensures { MatchOption result ((n : ℕ) → ¬ HasPassing cone.now (Contains rounds.now) a n) (HasPassing cone.now (Contains rounds.now) a) }
+/// Where the component of an atom stands among these, or none where it isn't one of them.
+pub(crate) fn home_of(cone: &Cone, numbers: &[u32], a: AtomId) -> Option<usize>
+    requires { IsRising numbers.now }
+    ensures { MatchOption result ((n : ℕ) → ¬ HasPassing cone.now (Contains numbers.now) a n) (IsHome cone.now numbers.now a) }
 {
     let Some(number) = cone.component(a) else {
         return None;
     };
-    match place_in(rounds, number) {
-        Some(_) => Some(number),
-        None => None,
-    }
+    place_in(numbers, number)
 }
 
-/// Those of the atoms that are in one of these components.
-fn selected(
+/// No members, for so many components.
+fn no_members(alloc: Global, count: usize) -> Result<Vec<Members>, OutOfMemory>
+    ensures { IfOk result (λ lists. lists.items ≡ replicate count (record { atoms = []; numbers = [] })) }
+{
+    let mut lists = Vec::with_capacity(alloc, count)?;
+    for _ in 0..count {
+        lists.push(Members {
+            atoms: Seq::new(alloc),
+            numbers: Seq::new(alloc),
+        })?;
+    }
+    Ok(lists)
+}
+
+/// Those of the atoms that are in each of these components.
+fn members_of(
     alloc: Global,
     cone: &Cone,
-    rounds: &[u32],
+    numbers: &[u32],
     atoms: &[AtomId],
-) -> Result<Members, OutOfMemory>
-    requires rounds { IsRising rounds.now }
+) -> Result<Vec<Members>, OutOfMemory>
+    requires numbers { IsStrictlyIncreasing numbers.now }
     requires atoms { IsStrictlyIncreasing atoms.now }
-    ensures { IfOk result (AreSelected cone.now (Contains rounds.now) atoms.now) }
+    ensures { IfOk result (λ members. AreMembers cone.now numbers.now atoms.now members.items) }
 {
-    let mut members = Members {
-        atoms: Seq::new(alloc),
-        numbers: Seq::new(alloc),
-    };
+    let mut members = no_members(alloc, numbers.len())?;
     for a in atoms {
-        if let Some(number) = number_among(cone, rounds, *a) {
-            members.push(*a, number)?;
+        if let Some(home) = home_of(cone, numbers, *a) {
+            members[home].push(*a, numbers[home])?;
         }
     }
     Ok(members)
@@ -132,31 +144,19 @@ impl Members {
     }
 }
 
-/// Those of the heads that are in a cyclic component.
-pub(crate) fn members_of(
+/// The cyclic components of rules, with those of the heads that they have.
+pub(crate) fn components_of(
     alloc: Global,
     cone: &Cone,
     rules: &[GroundRule],
     heads: &[AtomId],
-) -> Result<Members, OutOfMemory>
+) -> Result<Components, OutOfMemory>
     requires { IsStrictlyIncreasing heads.now }
-    ensures { IfOk result (AreSelected cone.now (IsCyclic cone.now rules.now) heads.now) }
+    ensures { IfOk result (AreComponents cone.now rules.now heads.now) }
 {
-    let mut rounds = rounds_of(alloc, cone, rules)?;
-    rounds.sort_unstable();
-    selected(alloc, cone, rounds.as_slice(), heads)
-}
-
-/// Those of the heads of a module that are in a cyclic component of its rules.
-pub(crate) fn cyclic_heads(alloc: Global, m: &GroundModule) -> Result<Members, OutOfMemory>
-    requires { IsWellFormed m.now.first_new m.now }
-    ensures { IfOk result (AreCyclicHeads m.now) }
-{
-    let Some(atoms) = m.first_new.checked_add(m.fresh) else {
-        return Err(OutOfMemory);
-    };
-    let rules = m.rules.as_slice();
-    let heads = m.heads.as_slice();
-    let cone = Cone::around(alloc, &Dependencies::new(alloc), rules, atoms, heads)?;
-    members_of(alloc, &cone, rules, heads)
+    let mut numbers = rounds_of(alloc, cone, rules)?;
+    numbers.sort_unstable();
+    numbers.dedup();
+    let members = members_of(alloc, cone, numbers.as_slice(), heads)?;
+    Ok(Components { numbers, members })
 }

@@ -1,17 +1,19 @@
 // What is kept of a module.
-ghost use Rattle.std.specs.Prelude.{ℕ, ◌≡◌, ◌≤◌, ◌<◌, ◌↔◌, All, Contains, IfOk, MatchOption, Some, length, slice_get};
+ghost use Rattle.std.specs.Prelude.{ℕ, ◌≡◌, ◌≤◌, ◌<◌, ◌↔◌, [], All, Contains, IfOk, MatchOption, OnOk, Some, length, slice_get};
 ghost use Rattle.ms_join.specs.Modules.{IsWellFormed};
 ghost use Rattle.ms_join.specs.Things.{body_of};
 ghost use Rattle.ms_join.specs.Things.Thing.{atom, body};
 ghost use Rattle.std.specs.List.Sorted.{IsStrictlyIncreasing};
-ghost use Rattle.ms_unfound.specs.Taking.{AreSupports, AreVars, HasNoMember, IsHeadAt, IsInner, IsInnerAt, IsPartOf, IsPartOfModule, IsSupportBy};
+ghost use Rattle.ms_unfound.specs.Members.{HaveMembers};
+ghost use Rattle.ms_unfound.specs.Taking.{ArePartsOf, ArePartsOfModule, AreVars, IsHeadAt, IsInner, IsInnerAt, IsPartOf, IsSupportBy, TakeRule};
 
-use crate::members::{Members, cyclic_heads, place_in};
+use crate::members::{Components, Members, components_of, home_of, place_in};
 use crate::part::{Part, Places, Support};
 use ms_base::atom_id::AtomId;
 use ms_base::memory::OutOfMemory;
 use ms_base::seq::Seq;
 use ms_complete::Complete;
+use ms_cone::{Cone, Dependencies};
 use ms_join::ground_module::GroundModule;
 use ms_join::ground_rule::GroundRule;
 use ms_lits::Numbers;
@@ -54,19 +56,6 @@ fn inner_places(
     Ok(places)
 }
 
-/// The place of a rule's head, where that is a member.
-fn head_place(members: &Members, rule: &GroundRule) -> Option<usize>
-    requires { IsStrictlyIncreasing members.now.atoms }
-    ensures { MatchOption result
-        ((h : ℕ) → rule.now.head ≡ Some h → ¬ Contains members.now.atoms h)
-        (IsHeadAt members.now rule.now) }
-{
-    match rule.head {
-        Some(head) => place_in(members.atoms.as_slice(), head.0),
-        None => None,
-    }
-}
-
 /// What the rule with the head in this place says of the members of the component of its head.
 fn support_at(
     alloc: Global,
@@ -91,28 +80,6 @@ fn support_at(
     })
 }
 
-/// The rules whose heads are members.
-fn supports_of(
-    alloc: Global,
-    members: &Members,
-    rules: &[GroundRule],
-    c: &Complete,
-) -> Result<Seq<Support>, OutOfMemory>
-    requires rising { IsStrictlyIncreasing members.now.atoms }
-    requires numbered { length members.now.numbers ≡ length members.now.atoms }
-    requires bodies { All (λ rule. Contains c.now.things (body (body_of rule))) rules.now }
-    ensures { IfOk result (AreSupports c.now.things members.now rules.now) }
-{
-    let mut supports = Seq::new(alloc);
-    for rule in rules {
-        if let Some(place) = head_place(members, rule) {
-            let support = support_at(alloc, members, rule, c, place)?;
-            supports.push(support)?;
-        }
-    }
-    Ok(supports)
-}
-
 /// The variables of atoms.
 fn vars_of(alloc: Global, atoms: &[u32], c: &Complete) -> Result<Numbers, OutOfMemory>
     requires { All (λ a. Contains c.now.things (atom a)) atoms.now }
@@ -125,43 +92,100 @@ fn vars_of(alloc: Global, atoms: &[u32], c: &Complete) -> Result<Numbers, OutOfM
     Ok(vars)
 }
 
-/// The part of a module with these members.
-pub(crate) fn part_of(
-    alloc: Global,
-    members: Members,
-    rules: &[GroundRule],
-    c: &Complete,
-) -> Result<Part, OutOfMemory>
-    requires rising { IsStrictlyIncreasing members.atoms }
-    requires numbered { length members.numbers ≡ length members.atoms }
-    requires atoms { All (λ a. Contains c.now.things (atom a)) members.atoms }
-    requires bodies { All (λ rule. Contains c.now.things (body (body_of rule))) rules.now }
-    ensures { IfOk result (IsPartOf c.now.things members rules.now) }
+/// The part of members, without rules.
+fn empty_part(alloc: Global, members: &Members, c: &Complete) -> Result<Part, OutOfMemory>
+    requires { All (λ a. Contains c.now.things (atom a)) members.now.atoms }
+    ensures { IfOk result (IsPartOf c.now.things members.now []) }
 {
-    let atoms = vars_of(alloc, members.atoms.as_slice(), c)?;
-    let supports = supports_of(alloc, &members, rules, c)?;
     Ok(Part {
-        atoms,
-        numbers: members.numbers,
-        supports,
+        atoms: vars_of(alloc, members.atoms.as_slice(), c)?,
+        numbers: Seq::copied(alloc, members.numbers.as_slice())?,
+        supports: Seq::new(alloc),
     })
 }
 
-/// The part of a module, or none exactly where no component is cyclic.
-pub(crate) fn part_of_module(
+/// The parts of components, without rules.
+fn empty_parts(alloc: Global, members: &[Members], c: &Complete) -> Result<Vec<Part>, OutOfMemory>
+    requires { All (λ m. All (λ a. Contains c.now.things (atom a)) m.atoms) members.now }
+    ensures { IfOk result (λ parts. ArePartsOf c.now.things members.now [] parts.items) }
+{
+    let mut parts = Vec::with_capacity(alloc, members.len())?;
+    for m in members {
+        parts.push(empty_part(alloc, m, c)?)?;
+    }
+    Ok(parts)
+}
+
+/// Gives a rule to the part of its head, where that is a member.
+fn add_rule(
+    alloc: Global,
+    cone: &Cone,
+    components: &Components,
+    rule: &GroundRule,
+    c: &Complete,
+    parts: &mut Vec<Part>,
+) -> Result<(), OutOfMemory>
+    requires rising { IsStrictlyIncreasing components.now.numbers.items }
+    requires members { HaveMembers cone.now components.now }
+    requires body { Contains c.now.things (body (body_of rule.now)) }
+    requires parts { length parts.old.items ≡ length components.now.members.items }
+    ensures { OnOk result (TakeRule c.now.things components.now.members.items rule.now parts.old.items parts.new.items) }
+{
+    let Some(head) = rule.head else {
+        return Ok(());
+    };
+    let Some(home) = home_of(cone, components.numbers.as_slice(), head) else {
+        return Ok(());
+    };
+    let members = &components.members[home];
+    let Some(place) = place_in(members.atoms.as_slice(), head.0) else {
+        return Ok(());
+    };
+    let support = support_at(alloc, members, rule, c, place)?;
+    parts[home].supports.push(support)?;
+    Ok(())
+}
+
+/// Gives each rule to the part of its head.
+fn add_rules(
+    alloc: Global,
+    cone: &Cone,
+    components: &Components,
+    rules: &[GroundRule],
+    c: &Complete,
+    parts: &mut Vec<Part>,
+) -> Result<(), OutOfMemory>
+    requires rising { IsStrictlyIncreasing components.now.numbers.items }
+    requires members { HaveMembers cone.now components.now }
+    requires bodies { All (λ rule. Contains c.now.things (body (body_of rule))) rules.now }
+    requires parts { ArePartsOf c.now.things components.now.members.items [] parts.old.items }
+    ensures { OnOk result (ArePartsOf c.now.things components.now.members.items rules.now parts.new.items) }
+{
+    for rule in rules {
+        add_rule(alloc, cone, components, rule, c, parts)?;
+    }
+    Ok(())
+}
+
+/// The parts of a module: one for each cyclic component of its rules.
+pub(crate) fn parts_of_module(
     alloc: Global,
     m: &GroundModule,
     c: &Complete,
-) -> Result<Option<Part>, OutOfMemory>
+) -> Result<Vec<Part>, OutOfMemory>
     requires well_formed { IsWellFormed m.now.first_new m.now }
     requires heads { All (λ a. Contains c.now.things (atom a)) m.now.heads }
     requires bodies { All (λ rule. Contains c.now.things (body (body_of rule))) m.now.rules }
-    ensures { IfOk result (λ found. MatchOption found (HasNoMember m.now) (IsPartOfModule c.now.things m.now)) }
+    ensures { IfOk result (λ parts. ArePartsOfModule c.now.things m.now parts.items) }
 {
-    let members = cyclic_heads(alloc, m)?;
-    if members.atoms.is_empty() {
-        return Ok(None);
-    }
-    let part = part_of(alloc, members, m.rules.as_slice(), c)?;
-    Ok(Some(part))
+    let Some(atoms) = m.first_new.checked_add(m.fresh) else {
+        return Err(OutOfMemory);
+    };
+    let rules = m.rules.as_slice();
+    let heads = m.heads.as_slice();
+    let cone = Cone::around(alloc, &Dependencies::new(alloc), rules, atoms, heads)?;
+    let components = components_of(alloc, &cone, rules, heads)?;
+    let mut parts = empty_parts(alloc, components.members.as_slice(), c)?;
+    add_rules(alloc, &cone, &components, rules, c, &mut parts)?;
+    Ok(parts)
 }

@@ -14,7 +14,7 @@ ghost use Rattle.ms_unfound.specs.Watched.{AreSettled, AreWatched, SettlesPart};
 
 use crate::part::Part;
 use crate::search::pressing_loop;
-use crate::taking::part_of_module;
+use crate::taking::parts_of_module;
 use crate::watch::Watch;
 use ms_base::memory::OutOfMemory;
 use ms_base::seq::Seq;
@@ -71,31 +71,30 @@ impl Unfounded {
         ensures taken { OnOk result (Takes self.old m.now c.now.things self.new) }
         ensures err { OnErr result (self.new ≡ self.old) }
     {
-        if let Some(part) = part_of_module(self.alloc, m, c)? {
-            keep(self.alloc, part, &mut self.parts, &mut self.watch)?;
-        }
+        let parts = parts_of_module(self.alloc, m, c)?;
+        keep(self.alloc, parts, &mut self.parts, &mut self.watch)?;
         self.vars = c.things();
         Ok(())
     }
 }
 
-/// Keeps one more part, which isn't known to be settled.
+/// Keeps more parts, which aren't known to be settled.
 fn keep(
     alloc: Global,
-    part: Part,
+    more: Vec<Part>,
     parts: &mut Seq<Part>,
     watch: &mut Watch,
 ) -> Result<(), OutOfMemory>
     requires watched { AreWatched watch.old.places.items parts.old }
     requires settled { AreSettled parts.old watch.old.settled watch.old.seen }
-    ensures ok { OnOk result (parts.new ≡ parts.old ++ part ∷ []) }
+    ensures ok { OnOk result (parts.new ≡ parts.old ++ more.items) }
     ensures err { OnErr result (parts.new ≡ parts.old) }
     ensures seen { watch.new.seen ≡ watch.old.seen }
     ensures watched { AreWatched watch.new.places.items parts.new }
     ensures settled { AreSettled parts.new watch.new.settled watch.new.seen }
 {
-    watch.watch_part(alloc, &part, parts.len())?;
-    parts.push(part)?;
+    watch.watch_parts(alloc, more.as_slice(), parts.len())?;
+    parts.append(&mut Seq::from_vec(more))?;
     Ok(())
 }
 

@@ -3,7 +3,7 @@
 ghost use Rattle.std.specs.Prelude.{ℕ, ◌≡◌, ◌++◌, ◌∷◌, ◌<◌, ◌-◌, [], All, Contains, IsTrue, OnErr, OnOk, length, take};
 ghost use Rattle.ms_nogood.specs.Theories.{BeginWith};
 ghost use Rattle.ms_unfound.specs.Marks.{flag_at};
-ghost use Rattle.ms_unfound.specs.Watched.{IsWatchedAt, KeepPlaces, SettledBefore, SettlesOnly, StaySettled, Touches, places_at};
+ghost use Rattle.ms_unfound.specs.Watched.{AreWatchedFrom, IsWatchedAt, KeepPlaces, SettledBefore, SettledBut, SettlesOnly, StaySettled, Touches, places_at};
 
 use crate::marking::is_marked;
 use crate::part::{Part, Places, Support};
@@ -109,9 +109,30 @@ impl Watch {
         }
     }
 
+    /// Watches the variables of parts that come into the places from one on. They aren't known to be settled.
+    pub(crate) fn watch_parts(
+        &mut self,
+        alloc: Global,
+        parts: &[Part],
+        known: usize,
+    ) -> Result<(), OutOfMemory>
+        ensures seen { self.new.seen ≡ self.old.seen }
+        ensures settled { SettledBut known (length parts.now) self.old.settled self.new.settled }
+        ensures keeps { KeepPlaces self.old.places.items self.new.places.items }
+        ensures watched { OnOk result (AreWatchedFrom self.new.places.items known parts.now) }
+    {
+        for (i, part) in parts.iter().enumerate() {
+            let Some(place) = known.checked_add(i) else {
+                return Err(OutOfMemory);
+            };
+            self.watch_part(alloc, part, place)?;
+        }
+        Ok(())
+    }
+
     /// Watches the variables of the part that comes into a place. It isn't known to be settled, and neither is any
     /// behind it.
-    pub(crate) fn watch_part(
+    fn watch_part(
         &mut self,
         alloc: Global,
         part: &Part,
